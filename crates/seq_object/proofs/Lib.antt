@@ -1,0 +1,9 @@
+pub mod Pairs
+pub mod Rooms
+pub mod Histories
+pub mod Totals
+pub mod Shards
+pub mod Entries
+pub mod Counters
+pub mod Steps
+pub mod Listed

@@ -1,0 +1,5 @@
+pub mod Sizes
+pub mod Object
+pub mod History
+pub mod Plain
+pub mod Laws
