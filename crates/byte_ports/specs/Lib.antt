@@ -1,0 +1,6 @@
+pub mod Causes
+pub mod Bytes
+pub mod Images
+pub mod Entries
+pub mod InMemory
+pub mod Laws

@@ -1,0 +1,205 @@
+//! Each call once, with its answer compared. The two functions at the top show what a caller concludes where no fault can come.
+
+ghost use Rattle.std.specs.Prelude.{◌≡◌, ◌≢◌, ◌≤◌, ◌++◌, length, IfOk, OnOk, Err, IsOkUnless};
+
+use super::*;
+use std::alloc::{AllocError, Global};
+use std::fs::File;
+use std::io::Input;
+use std::test::Fail;
+use std::{env, fs};
+
+/// A sure source within the limit is read whole, but for want of memory.
+fn read_sure(alloc: Global, source: &mut SureSource, limit: u64) -> Result<Vec<u8>, ReadRefusal>
+    ensures never_failed { result ≢ Err ReadRefusal.Failed }
+    ensures succeeds { length source.old ≤ limit → IsOkUnless result ReadRefusal.OutOfMemory }
+    ensures bytes { IfOk result (λ bytes. bytes.items ≡ source.old) }
+{
+    read_all(alloc, source, limit)
+}
+
+/// A sure sink takes all bytes, but for want of memory.
+fn write_sure(sink: &mut SureSink, bytes: &[u8]) -> Result<(), StoreRefusal>
+    ensures succeeds { IsOkUnless result StoreRefusal.OutOfMemory }
+    ensures held { OnOk result (sink.new ≡ sink.old ++ bytes.now) }
+{
+    write_all(sink, bytes)
+}
+
+fn bytes_of(alloc: Global, bytes: &[u8]) -> Result<Vec<u8>, AllocError> {
+    Vec::from_slice(alloc, bytes)
+}
+
+fn calls_of(alloc: Global, calls: &[u64]) -> Result<Vec<u64>, AllocError> {
+    Vec::from_slice(alloc, calls)
+}
+
+#[test]
+fn a_source_is_read_within_the_limit(rt: HostRuntime) -> Result<(), Fail> {
+    for limit in [3u64, 4] {
+        let mut source = SureSource::new(bytes_of(rt.alloc(), &[7, 8, 9])?);
+        let bytes = read_sure(rt.alloc(), &mut source, limit)?;
+        assert_eq!(rt; bytes.as_slice(), [7, 8, 9].as_slice());
+    }
+    Ok(())
+}
+
+#[test]
+fn a_source_of_one_byte_more_is_too_long(rt: HostRuntime) -> Result<(), Fail> {
+    let mut source = SureSource::new(bytes_of(rt.alloc(), &[7, 8, 9])?);
+    assert_eq!(rt;
+        read_all(rt.alloc(), &mut source, 2).err(),
+        Some(ReadRefusal::TooLong)
+    );
+    assert_eq!(rt; source.faults(), 0);
+    Ok(())
+}
+
+#[test]
+fn a_long_source_is_read_in_pieces(rt: HostRuntime) -> Result<(), Fail> {
+    let long = vec![in rt.alloc(); 5u8; 200_000]?;
+    let mut source = MemorySource::new(long, Vec::new(rt.alloc()));
+    assert_eq!(rt; read_all(rt.alloc(), &mut source, 200_000)?.len(), 200_000);
+    Ok(())
+}
+
+#[test]
+fn a_source_in_memory_fails_where_the_list_says(rt: HostRuntime) -> Result<(), Fail> {
+    let fails = calls_of(rt.alloc(), &[2])?;
+    let mut source = MemorySource::new(bytes_of(rt.alloc(), &[7, 8, 9])?, fails);
+    let mut buf = [0u8; 2];
+    for want in [Ok(2), Err(Failed), Ok(1), Ok(0)] {
+        assert_eq!(rt; source.read(&mut buf), want);
+    }
+    assert_eq!(rt; buf, [9, 8]);
+    assert_eq!(rt; source.faults(), 1);
+    Ok(())
+}
+
+#[test]
+fn a_fault_ends_the_reading(rt: HostRuntime) -> Result<(), Fail> {
+    let fails = calls_of(rt.alloc(), &[2])?;
+    let mut source = MemorySource::new(bytes_of(rt.alloc(), &[7, 8, 9])?, fails);
+    assert_eq!(rt;
+        read_all(rt.alloc(), &mut source, 9).err(),
+        Some(ReadRefusal::Failed)
+    );
+    Ok(())
+}
+
+#[test]
+fn a_sure_sink_holds_what_was_written(rt: HostRuntime) -> Result<(), Fail> {
+    let mut sink = SureSink::new(rt.alloc());
+    write_sure(&mut sink, &[7, 8])?;
+    write_sure(&mut sink, &[9])?;
+    assert_eq!(rt; sink.bytes(), [7, 8, 9].as_slice());
+    assert_eq!(rt; sink.faults(), 0);
+    Ok(())
+}
+
+#[test]
+fn a_sink_in_memory_fails_where_the_list_says(rt: HostRuntime) -> Result<(), Fail> {
+    let mut sink = MemorySink::new(rt.alloc(), calls_of(rt.alloc(), &[2])?);
+    for want in [Ok(()), Err(StoreRefusal::Failed), Ok(())] {
+        assert_eq!(rt; write_all(&mut sink, &[7, 8]), want);
+    }
+    assert_eq!(rt; sink.bytes(), [7, 8, 7, 8].as_slice());
+    assert_eq!(rt; sink.faults(), 1);
+    Ok(())
+}
+
+#[test]
+fn sure_images_are_kept_by_name(rt: HostRuntime) -> Result<(), Fail> {
+    let mut images = SureImages::new(rt.alloc());
+    images.put("a", bytes_of(rt.alloc(), &[1])?)?;
+    images.save("b", &[2, 3])?;
+    images.save("a", &[4])?;
+    assert_eq!(rt;
+        images.load(rt.alloc(), "a")?.as_deref(),
+        Some([4].as_slice())
+    );
+    assert_eq!(rt; images.get("b"), Some([2, 3].as_slice()));
+    assert!(rt; images.load(rt.alloc(), "c")?.is_none());
+    assert_eq!(rt; images.faults(), 0);
+    Ok(())
+}
+
+#[test]
+fn images_in_memory_are_kept_by_name(rt: HostRuntime) -> Result<(), Fail> {
+    let mut images = MemoryImages::new(rt.alloc(), Vec::new(rt.alloc()));
+    images.put("a", bytes_of(rt.alloc(), &[1])?)?;
+    images.save("b", &[2, 3])?;
+    assert_eq!(rt; images.get("a"), Some([1].as_slice()));
+    assert_eq!(rt;
+        images.load(rt.alloc(), "b")?.as_deref(),
+        Some([2, 3].as_slice())
+    );
+    Ok(())
+}
+
+#[test]
+fn images_in_memory_fail_where_the_list_says(rt: HostRuntime) -> Result<(), Fail> {
+    let mut images = MemoryImages::new(rt.alloc(), calls_of(rt.alloc(), &[2, 3])?);
+    assert_eq!(rt; images.save("b", &[2, 3]), Ok(()));
+    assert_eq!(rt;
+        images.load(rt.alloc(), "b").err(),
+        Some(StoreRefusal::Failed)
+    );
+    assert_eq!(rt; images.save("b", &[5]), Err(StoreRefusal::Failed));
+    assert_eq!(rt; images.get("b"), Some([2, 3].as_slice()));
+    assert_eq!(rt; images.faults(), 2);
+    Ok(())
+}
+
+#[test]
+fn files_keep_images(rt: HostRuntime) -> Result<(), Fail> {
+    let name = format!(in rt.alloc(); "{}/byte_ports_kept.image", env::temp_dir(&rt)?.display())?;
+    let mut images = FileImages::new(rt);
+    images.save(&name, &[1, 2, 3])?;
+    images.save(&name, &[7, 8])?;
+    assert_eq!(rt;
+        images.load(rt.alloc(), &name)?.as_deref(),
+        Some([7, 8].as_slice())
+    );
+    assert_eq!(rt; images.faults(), 0);
+    fs::remove_file(&rt, &name)?;
+    Ok(())
+}
+
+#[test]
+fn a_long_file_is_cut(rt: HostRuntime) -> Result<(), Fail> {
+    let name = format!(in rt.alloc(); "{}/byte_ports_long.image", env::temp_dir(&rt)?.display())?;
+    File::create(&rt, &name)?.set_len(40_000_001)?;
+    let loaded = FileImages::new(rt).load(rt.alloc(), &name)?;
+    assert_eq!(rt; loaded.map(|bytes| bytes.len()), Some(40_000_000));
+    fs::remove_file(&rt, &name)?;
+    Ok(())
+}
+
+#[test]
+fn a_missing_file_is_no_fault(rt: HostRuntime) -> Result<(), Fail> {
+    let mut images = FileImages::new(rt);
+    assert!(rt; images.load(rt.alloc(), "no_such_folder/image")?.is_none());
+    assert_eq!(rt; images.faults(), 0);
+    assert_eq!(rt;
+        images.save("no_such_folder/image", &[7]),
+        Err(StoreRefusal::Failed)
+    );
+    assert_eq!(rt;
+        images.load(rt.alloc(), "/").err(),
+        Some(StoreRefusal::Failed)
+    );
+    assert_eq!(rt; images.faults(), 2);
+    Ok(())
+}
+
+#[test]
+fn standard_streams_are_reached(rt: HostRuntime) -> Result<(), Fail> {
+    let mut source = StdinSource::new(rt.reader());
+    assert_eq!(rt; source.read(&mut []), Ok(0));
+    assert_eq!(rt; source.faults(), 0);
+    let mut sink = StdoutSink::new(rt);
+    assert_eq!(rt; write_all(&mut sink, b"ports\n"), Ok(()));
+    assert_eq!(rt; sink.faults(), 0);
+    Ok(())
+}
