@@ -1,0 +1,17 @@
+pub mod States
+pub mod Chain
+pub mod Steps
+pub mod Survivors
+pub mod Endings
+pub mod Words
+pub mod Safe
+pub mod Formats
+pub mod Works
+pub mod Ended
+pub mod Tried
+pub mod TriedEnds
+pub mod Played
+pub mod Memories
+pub mod TriedCuts
+pub mod TriedPresent
+pub mod TriedImages

@@ -1,0 +1,5 @@
+use Rattle.life_laws.proofs.Words.{room_stands}
+use Rattle.life_laws.proofs.images.room_stands_law.Goals as goal
+
+pub returns : goal.returns
+returns c = room_stands

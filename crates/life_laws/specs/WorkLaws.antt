@@ -1,0 +1,42 @@
+-- The laws of how much work a life does: from bounds for each room and worker to those of the life; and rounds of a schedule.
+use Rattle.std.specs.Prelude.{◌≡◌, ℕ, ◌+◌, ◌*◌, ◌<◌, ◌≤◌, List, length}
+use Rattle.seq_object.specs.Sizes.{Sizes}
+use Rattle.seq_object.specs.declared.history.Entry.{Entry}
+use Rattle.seq_object.specs.History.{of_room, total}
+use Rattle.room_model.specs.Rooms.{thread_room, super_room, room_count, line_total}
+use Rattle.life_model.specs.declared.life.Life.TheVariants.{Start, Resume}
+use Rattle.room_model.specs.Image.{Image}
+use Rattle.life_model.specs.Life.{Opening, sizes, closings}
+use Rattle.life_model.specs.Work.{IsFlushedLittle, opening_write_backs, OffersRounds, round_robin, worker_turns, Worked, HasWorked, one_if, least_work, most_work}
+
+-- where each room's write-backs are few by its own entries, those of all rooms are few
+abbrev pub FlushedLittleLaw : Type 0
+FlushedLittleLaw = (o : Opening) (image : Image) (h : List Entry) (marks : List ℕ) (write_backs : ℕ → ℕ) → 0 < o.settings.shards
+    → ((room : ℕ) → room ≤ o.settings.shards → write_backs room ≤ 4 * length (of_room (sizes o) room h))
+    → ((thread : ℕ) → thread < o.settings.threads → write_backs (thread_room (sizes o) thread) ≤ closings o.life marks + 1)
+    → write_backs (super_room (sizes o)) ≤ closings o.life marks + 1
+    → IsFlushedLittle o image h marks (opening_write_backs o.life (sizes o) image + total write_backs (room_count (sizes o)))
+
+-- what all workers have done is at least what their entries and marks ask for
+abbrev pub LeastWorkLaw : Type 0
+LeastWorkLaw = (z : Sizes) (worked : ℕ → Worked) → ((thread : ℕ) → thread < z.threads → HasWorked z (worked thread))
+    → least_work z (total (λ t. (worked t).entries) z.threads) (total (λ t. (worked t).marks) z.threads) ≤ total (λ t. (worked t).done) z.threads
+
+-- what all workers have done is at most what their entries, epochs and closings allow
+abbrev pub MostWorkLaw : Type 0
+MostWorkLaw = (z : Sizes) (worked : ℕ → Worked) (closed : ℕ) → ((thread : ℕ) → thread < z.threads → HasWorked z (worked thread))
+    → total (λ t. (worked t).marks) z.threads ≡ closed → total (λ t. one_if (worked t).closing) z.threads ≤ 1
+    → ((thread : ℕ) → thread < z.threads → (worked thread).epochs ≤ closed + 1)
+    → total (λ t. (worked t).done) z.threads ≤ most_work z (total (λ t. (worked t).entries) z.threads) closed
+
+-- a schedule that names all threads in turn, from whichever turn on, offers one round for each time that it goes through them
+abbrev pub RoundRobinLaw : Type 0
+RoundRobinLaw = (threads turn rounds turns : ℕ) → 0 < threads → threads * rounds ≤ turns
+    → OffersRounds threads rounds (round_robin threads turn turns)
+
+-- so the workers of a start are offered that many rounds, and those of a resume where the most that recovery takes comes on top
+abbrev pub WorkerRoundsLaw : Type 0
+WorkerRoundsLaw = (z : Sizes) (rounds turns : ℕ) → 0 < z.threads
+    → (z.threads * rounds ≤ turns → OffersRounds z.threads rounds (worker_turns Start z (round_robin z.threads 0 turns)))
+    × (z.threads * rounds + 5 * line_total z ≤ turns
+    → OffersRounds z.threads rounds (worker_turns Resume z (round_robin z.threads 0 turns)))
