@@ -1,0 +1,11 @@
+pub mod Behind
+pub mod Closings
+pub mod Fills
+pub mod MoreRoom
+pub mod Planned
+pub mod Played
+pub mod RestoreRuns
+pub mod Restores
+pub mod Safety
+pub mod Survivors
+pub mod Tears
