@@ -1,0 +1,9 @@
+pub mod Words
+pub mod Moves
+pub mod Begins
+pub mod Steps
+pub mod Plannings
+pub mod Made
+pub mod Helds
+pub mod FormattedRooms
+pub mod Firsts

@@ -1,0 +1,34 @@
+-- What a room may plan, and that planned writes may be stored.
+use Rattle.std.proofs.Common.{◌≡◌, ℕ, List, [], ◌∷◌, ◌++◌, refl, sym, ap, ◌∙◌, subst, length}
+use Rattle.line_memory.specs.Line.{bank_load}
+use Rattle.room_model.specs.declared.write.PlannedStore.{PlannedStore}
+use Rattle.room_model.specs.declared.write.Write.{Write}
+use Rattle.room_model.specs.MapRoom.{map_layout}
+use Rattle.room_model.specs.Rooms.{StandsFor}
+use Rattle.room_model.specs.Writes.{write_stores}
+use Rattle.room_laws.proofs.OneContents.{is_room}
+use Rattle.incll_var.specs.Cells.{CellBankState, epoch_of}
+use Rattle.incll_var.specs.Plans.{PlanState, cleared}
+use Rattle.incll_var.proofs.Planned.{planned_more}
+use Rattle.command_room.specs.Room.{words_of, words_in, sizes_in}
+use Rattle.command_room.specs.Laws.{PlanningLaw, WritesPlannedLaw, WholeLaw}
+use Rattle.command_room.proofs.Words.{same_words}
+use Rattle.command_room.proofs.Moves.{moved_law, none_left}
+
+-- the law on writes that are planned
+pub writes_planned : WritesPlannedLaw
+writes_planned cells stores [] whole running within planned = planned
+writes_planned cells stores (x ∷ xs) whole running within planned =
+    writes_planned cells (stores ++ write_stores (epoch_of cells.state) (bank_load cells.bank) stores x) xs whole running within.2
+    (planned_more cells x.line stores x.word x.value whole running within.0 within.1 planned)
+
+-- the law on a room that plans
+pub planning : PlanningLaw
+planning s plan was idle =
+    let none : s.plan.stores ≡ [] = none_left s.under_way s.cells.state s.plan.stores s.history.spare idle was.going in
+    (moved_law s s.cells (cleared plan) s.history was idle refl was.cells refl
+    (same_words (words_of s) (words_in s.cells.state s.cells.bank []) (ap (words_in s.cells.state s.cells.bank) (sym none)))).room
+
+-- the law on the whole that a room stands for
+pub whole_stands : WholeLaw
+whole_stands s c was part = is_room.whole map_layout (sizes_in s) s.room (words_of s) c was.stands part
