@@ -1,0 +1,5 @@
+mod Finding
+mod Places
+mod Begins
+mod Listings
+mod TestRooms

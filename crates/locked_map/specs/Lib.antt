@@ -1,0 +1,4 @@
+pub mod Room
+pub mod Plans
+pub mod Listing
+pub mod Tests
