@@ -1,0 +1,4 @@
+pub mod Commands
+pub mod Queues
+pub mod Begins
+pub mod Walks

@@ -1,0 +1,168 @@
+//! The plans of the queue's commands. All words are read from the cells, as they were before the first store of the plan, and
+//! nothing is stored here. Refused for want of memory, a call may leave a part of its stores in the plan.
+
+ghost use Rattle.std.specs.Prelude.{◌≡◌, ◌≢◌, ◌<◌, ◌≤◌, ◌+◌, ◌-◌, ◌∷◌, ◌++◌, [], length, OnOk, IfOk};
+ghost use Rattle.line_memory.specs.Line.{bank_load};
+ghost use Rattle.room_model.specs.Writes.{write, link_writes, first_writes, give_writes, deq_item, deq_writes};
+ghost use Rattle.incll_var.specs.Cells.{IsRunning};
+ghost use Rattle.line_alloc.specs.Headers.{planned};
+ghost use Rattle.locked_queue.specs.Plans.{AreEnds, back_writes, back_reply, front_item, queue_writes, queue_answer};
+
+use incll_var::{CellBank, Plan};
+use line_alloc::{TakeRefusal, plan_count, plan_give, plan_take};
+use room_model::Write;
+use seq_object::{Command, Reply};
+use std::alloc::AllocError;
+
+/// The line of the header.
+const HEADER: u32 = 0;
+/// The word of the header that counts the items.
+const COUNT: u32 = 2;
+/// The line of the ends.
+const ENDS: u32 = 1;
+/// The word of the ends that names the first node, and 0 where the queue is empty.
+const FIRST: u32 = 0;
+/// The word of the ends that names the last node, and 0 where the queue is empty.
+const LAST: u32 = 1;
+/// The word of a node that has its item.
+const ITEM: u32 = 0;
+/// The word of a node that names the next one, and 0 in the last.
+const NEXT: u32 = 1;
+
+/// Plans a command of the queue, and gives what the room answers to it: nothing to a take where the queue is empty, or to a
+/// command of the map, and nothing is planned then.
+pub fn plan_command(
+    cells: &CellBank,
+    command: Command,
+    plan: &mut Plan,
+) -> Result<Option<Reply>, AllocError>
+    requires running { IsRunning cells.now.state }
+    requires ends { AreEnds (length cells.now.bank.lines) (bank_load cells.now.bank) }
+    ensures answer { IfOk result (λ answer. answer ≡ queue_answer (length cells.now.bank.lines) (bank_load cells.now.bank) command) }
+    ensures stores { OnOk result (plan.new ≡ planned cells.now plan.old (queue_writes (length cells.now.bank.lines) (bank_load cells.now.bank) command)) }
+{
+    match command {
+        Command::Enq(value) => Ok(Some(plan_back(cells, value, plan)?)),
+        Command::Deq => match plan_front(cells, plan)? {
+            Some(item) => Ok(Some(Reply::Found(item))),
+            None => Ok(Some(Reply::Empty)),
+        },
+        Command::Take => match plan_front(cells, plan)? {
+            Some(item) => Ok(Some(Reply::Found(item))),
+            None => Ok(None),
+        },
+        Command::Put(_, _) | Command::Get(_) | Command::Del(_) => Ok(None),
+    }
+}
+
+/// Plans an item at the back, where a line is left for it, and gives the reply.
+fn plan_back(cells: &CellBank, value: u64, plan: &mut Plan) -> Result<Reply, AllocError>
+    requires running { IsRunning cells.now.state }
+    requires ends { AreEnds (length cells.now.bank.lines) (bank_load cells.now.bank) }
+    ensures reply { IfOk result (λ reply. reply ≡ back_reply (length cells.now.bank.lines) (bank_load cells.now.bank)) }
+    ensures stores { OnOk result (plan.new ≡ planned cells.now plan.old (back_writes (length cells.now.bank.lines) (bank_load cells.now.bank) value)) }
+{
+    match plan_take(cells, plan) {
+        Ok(line) => {
+            plan_node(cells, line, value, plan)?;
+            Ok(Reply::Done)
+        }
+        Err(TakeRefusal::Full) => Ok(Reply::Full),
+        Err(TakeRefusal::OutOfMemory) => Err(AllocError),
+    }
+}
+
+/// Plans the writes that make this line the last node, with this item, and count it.
+fn plan_node(cells: &CellBank, line: u32, value: u64, plan: &mut Plan) -> Result<(), AllocError>
+    requires running { IsRunning cells.now.state }
+    requires ends { AreEnds (length cells.now.bank.lines) (bank_load cells.now.bank) }
+    requires line { line < length cells.now.bank.lines }
+    ensures { OnOk result (plan.new ≡ planned cells.now plan.old (write line 0 value ∷ write line 1 0 ∷ link_writes (bank_load cells.now.bank) line ++ write 0 2 (bank_load cells.now.bank 0 2 + 1) ∷ [])) }
+{
+    let _lines = cells.lines();
+    let count = cells.load(HEADER, COUNT);
+    plan_pair(cells, at(line, ITEM, value), at(line, NEXT, 0), plan)?;
+    plan_link(cells, line, plan)?;
+    plan_count(cells, count + 1, plan)
+}
+
+/// Plans the writes that put this line behind the last node, or that make it both ends of an empty queue.
+fn plan_link(cells: &CellBank, line: u32, plan: &mut Plan) -> Result<(), AllocError>
+    requires running { IsRunning cells.now.state }
+    requires ends { AreEnds (length cells.now.bank.lines) (bank_load cells.now.bank) }
+    ensures { OnOk result (plan.new ≡ planned cells.now plan.old (link_writes (bank_load cells.now.bank) line)) }
+{
+    let _lines = cells.lines();
+    let node = u64::from(line);
+    let last = cells.load(ENDS, LAST) as u32;
+    if cells.load(ENDS, FIRST) == 0 {
+        plan_pair(cells, at(ENDS, FIRST, node), at(ENDS, LAST, node), plan)
+    } else {
+        plan_pair(cells, at(last, NEXT, node), at(ENDS, LAST, node), plan)
+    }
+}
+
+/// Plans to take the front item off, where there is one, and gives it.
+fn plan_front(cells: &CellBank, plan: &mut Plan) -> Result<Option<u64>, AllocError>
+    requires running { IsRunning cells.now.state }
+    requires ends { AreEnds (length cells.now.bank.lines) (bank_load cells.now.bank) }
+    ensures item { IfOk result (λ item. item ≡ front_item (bank_load cells.now.bank)) }
+    ensures stores { OnOk result (plan.new ≡ planned cells.now plan.old (deq_writes (bank_load cells.now.bank))) }
+{
+    let _lines = cells.lines();
+    let first = cells.load(ENDS, FIRST) as u32;
+    if first == 0 {
+        return Ok(None);
+    }
+    plan_unlink(cells, first, plan)?;
+    Ok(Some(cells.load(first, ITEM)))
+}
+
+/// Plans the writes that take this line, the first node, out of the queue, give it back and count one item less.
+fn plan_unlink(cells: &CellBank, first: u32, plan: &mut Plan) -> Result<(), AllocError>
+    requires running { IsRunning cells.now.state }
+    requires ends { AreEnds (length cells.now.bank.lines) (bank_load cells.now.bank) }
+    requires first { first ≡ bank_load cells.now.bank 1 0 }
+    requires some { first ≢ 0 }
+    ensures { OnOk result (plan.new ≡ planned cells.now plan.old (deq_item (bank_load cells.now.bank))) }
+{
+    let count = cells.load(HEADER, COUNT);
+    plan_first(cells, first, plan)?;
+    plan_give(cells, first, plan)?;
+    plan_count(cells, count - 1, plan)
+}
+
+/// Plans the writes that make the node behind this line the first one; where there is none, the queue has no ends.
+fn plan_first(cells: &CellBank, first: u32, plan: &mut Plan) -> Result<(), AllocError>
+    requires running { IsRunning cells.now.state }
+    requires lines { 2 ≤ length cells.now.bank.lines }
+    requires first { first < length cells.now.bank.lines }
+    ensures { OnOk result (plan.new ≡ planned cells.now plan.old (first_writes (bank_load cells.now.bank) first)) }
+{
+    let next = cells.load(first, NEXT);
+    if next == 0 {
+        plan_pair(cells, at(ENDS, FIRST, next), at(ENDS, LAST, 0), plan)
+    } else {
+        cells.plan_write(ENDS, FIRST, next, plan)
+    }
+}
+
+/// Plans two writes, in order.
+fn plan_pair(cells: &CellBank, one: Write, two: Write, plan: &mut Plan) -> Result<(), AllocError>
+    requires running { IsRunning cells.now.state }
+    requires one_line { one.line < length cells.now.bank.lines }
+    requires one_word { one.word < 3 }
+    requires two_line { two.line < length cells.now.bank.lines }
+    requires two_word { two.word < 3 }
+    ensures { OnOk result (plan.new ≡ planned cells.now plan.old (one ∷ two ∷ [])) }
+{
+    cells.plan_write(one.line, one.word, one.value, plan)?;
+    cells.plan_write(two.line, two.word, two.value, plan)
+}
+
+/// The write of a value into a word of a line.
+fn at(line: u32, word: u32, value: u64) -> Write
+    ensures { result ≡ write line word value }
+{
+    Write { line, word, value }
+}
