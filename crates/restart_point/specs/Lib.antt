@@ -1,0 +1,3 @@
+pub mod ArrivalWord
+pub mod Laws
+pub mod Rooms
