@@ -1,0 +1,16 @@
+pub mod PieceLemmas
+pub mod Fronts
+pub mod KeepLemmas
+pub mod SectionLemmas
+pub mod EndLemmas
+pub mod Free
+pub mod NumberLaws
+pub mod LineLaws
+pub mod TurnLaws
+pub mod CommandLaws
+pub mod SectionLaws
+pub mod WholeLaws
+pub mod Readings
+pub mod PrintLaws
+pub mod ReportLaws
+pub mod StateLaws

@@ -1,0 +1,15 @@
+pub mod Program
+pub mod Pieces
+pub mod Text
+pub mod Numbers
+pub mod Faults
+pub mod Reading
+pub mod CommandWords
+pub mod Head
+pub mod Turns
+pub mod Keep
+pub mod Sections
+pub mod Whole
+pub mod Built
+pub mod ReportText
+pub mod StateText

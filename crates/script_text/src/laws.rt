@@ -1,0 +1,11 @@
+//! Laws of the texts, each the contract of a function that does nothing.
+//! Whoever needs the law calls the function.
+
+ghost use Rattle.std.specs.Prelude.{◌≡◌};
+ghost use Rattle.script_text.specs.Program.{Program};
+ghost use Rattle.script_text.specs.Text.{HasText, text_of};
+
+/// One text is the text of one program.
+pub fn one_program()
+    ensures { (p q : Program) → HasText p → HasText q → text_of p ≡ text_of q → p ≡ q }
+{}

@@ -1,0 +1,47 @@
+//! Texts: scripts that are read and printed, and reports and states that are printed.
+//! The crate keeps the grammar of these texts and nothing else. Nothing here has a state: a text goes in and a value comes out,
+//! or a value goes in and its one text comes out.
+//!
+//! A contract sees a script as a program, which is the script without where it lies in memory, and a report as a record of lists.
+//! It sees a text as bytes. The text of a program is one definition; the first fault of other bytes is another, which reads them
+//! from the front.
+//!
+//! Proved here: `read_script` gives a script exactly where the bytes are its text, and else the first fault by line and kind;
+//! `parse` does the same for the form of script that is built so far, and refuses every other text as line 0 and kind 0; `print`,
+//! `report_text` and `state_text` write the one text; two programs never have one text. Want of memory stands beside each.
+//! Proved only above: that a report is that of a life, so that its marks' epochs follow one another and its numbers are small.
+//! Only tested: that an ample memory suffices. Each byte of a text is looked at a fixed number of times.
+#![tactic(auto)]
+
+mod built;
+mod commands;
+mod fault;
+mod head;
+mod keep;
+mod laws;
+mod mode;
+mod numbers;
+mod pieces;
+mod place;
+mod printing;
+mod report;
+mod reporting;
+mod script;
+mod sections;
+mod stating;
+mod turns;
+mod whole;
+
+pub use built::parse;
+pub use fault::{ScriptFault, ScriptRefusal, kind_name};
+pub use laws::one_program;
+pub use mode::Mode;
+pub use printing::print;
+pub use report::Report;
+pub use reporting::report_text;
+pub use script::Script;
+pub use stating::state_text;
+pub use whole::read_script;
+
+#[cfg(test)]
+mod tests;
