@@ -1,0 +1,18 @@
+-- The code of each status.
+use Rattle.std.specs.Prelude.{ℕ}
+use Rattle.respct.specs.declared.status.Status.{Status}
+use Rattle.respct.specs.declared.status.Status.TheVariants.{Finished, Usage, Script, Stalled, Cut, ReadFault, WriteFault, StoreFault, NoImage, OutOfMemory, TooLong}
+
+-- the code with which the program exits
+abbrev pub code_of : Status → ℕ
+code_of Finished = 0
+code_of Usage = 1
+code_of (Script fault) = 2
+code_of Stalled = 3
+code_of Cut = 4
+code_of ReadFault = 7
+code_of WriteFault = 8
+code_of StoreFault = 9
+code_of NoImage = 10
+code_of OutOfMemory = 11
+code_of TooLong = 12

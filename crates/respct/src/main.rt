@@ -1,0 +1,56 @@
+//! respct: carries out a script of map commands on simulated persistent memory, and reports what was done.
+#![tactic(auto)]
+
+mod answer;
+mod carry;
+mod find;
+mod format;
+mod loads;
+mod map;
+mod start;
+mod status;
+#[cfg(test)]
+mod tests;
+mod top;
+mod words;
+
+use byte_ports::{StdinSource, StdoutSink, SureImages};
+use line_memory::Memory;
+use status::Status;
+use std::env;
+use std::io::{ErrorKind, Input};
+use std::process::ExitCode;
+
+fn main(rt: HostRuntime) -> ExitCode {
+    let mut source = StdinSource::new(rt.reader());
+    let mut sink = StdoutSink::new(&rt);
+    let mut images = SureImages::new(rt.alloc());
+    let mut memory = Memory::empty(rt.alloc());
+    let status = match words_of(&rt) {
+        Ok(words) => top::respct(
+            &rt,
+            &words,
+            &mut source,
+            &mut images,
+            &mut sink,
+            &mut memory,
+        ),
+        Err(status) => status,
+    };
+    if status.is_refusal() {
+        let _ = eprintln!(&rt; "{status}");
+    }
+    ExitCode::from(status.code())
+}
+
+// The words of the command line, without the program's name. A word that is no text belongs to no form.
+fn words_of(rt: &HostRuntime) -> Result<Vec<String>, Status> {
+    match env::args(rt) {
+        Ok(words) => match words.skip(1).collect::<Vec<String>>(rt.alloc()) {
+            Ok(words) => Ok(words),
+            Err(_) => Err(Status::OutOfMemory),
+        },
+        Err(error) if error.kind() == ErrorKind::OutOfMemory => Err(Status::OutOfMemory),
+        Err(_) => Err(Status::Usage),
+    }
+}

@@ -1,0 +1,86 @@
+//! How a call of the program ends, and the code and the text that tell it.
+
+ghost use Rattle.std.specs.Prelude.{◌≡◌};
+ghost use Rattle.respct.specs.Status.{code_of};
+
+use script_text::{ScriptFault, kind_name};
+use std::fmt;
+
+/// How a call of the program ended.
+#[derive(Clone, Copy, Debug, PartialEq, Eq)]
+pub enum Status {
+    /// All scripts are used.
+    Finished,
+    /// The words after the program's name are none of the forms.
+    Usage,
+    /// The text that was read is no script: its first fault.
+    Script(ScriptFault),
+    /// Each thread is at its script's end or before a take of the empty queue.
+    Stalled,
+    /// The power was cut before the scripts were used.
+    Cut,
+    /// The source could not be read.
+    ReadFault,
+    /// The report could not be written; a prefix of it may have been.
+    WriteFault,
+    /// The image store could not be used.
+    StoreFault,
+    /// The image store holds no image of the name.
+    NoImage,
+    /// Memory ran out.
+    OutOfMemory,
+    /// The source has more bytes than a script may have.
+    TooLong,
+}
+
+impl Status {
+    /// The code with which the program exits, from 0 to 12. 5 and 6 are those of an image that is refused or does not fit.
+    pub fn code(&self) -> u8
+        ensures { result ≡ code_of self.now }
+    {
+        match self {
+            Status::Finished => 0,
+            Status::Usage => 1,
+            Status::Script(_) => 2,
+            Status::Stalled => 3,
+            Status::Cut => 4,
+            Status::ReadFault => 7,
+            Status::WriteFault => 8,
+            Status::StoreFault => 9,
+            Status::NoImage => 10,
+            Status::OutOfMemory => 11,
+            Status::TooLong => 12,
+        }
+    }
+
+    /// Whether the program says on standard error why it was refused.
+    pub fn is_refusal(&self) -> bool {
+        !matches!(self, Status::Finished | Status::Stalled | Status::Cut)
+    }
+}
+
+impl fmt::Display for Status {
+    /// The line for standard error, without its end.
+    fn fmt<W: fmt::Write>(&self, f: &mut fmt::Formatter<W>) -> fmt::Result {
+        match self {
+            Status::Finished => f.write_str("finished"),
+            Status::Usage => f.write_str(
+                "usage: respct start, resume or check with --image NAME, or respct drill N",
+            ),
+            Status::Script(fault) => write!(
+                f,
+                "script: line {}: {}",
+                fault.line,
+                kind_name(fault.kind)
+            ),
+            Status::Stalled => f.write_str("stalled"),
+            Status::Cut => f.write_str("cut"),
+            Status::ReadFault => f.write_str("cannot read the script"),
+            Status::WriteFault => f.write_str("cannot write the report"),
+            Status::StoreFault => f.write_str("cannot use the image store"),
+            Status::NoImage => f.write_str("no such image"),
+            Status::OutOfMemory => f.write_str("out of memory"),
+            Status::TooLong => f.write_str("script too long"),
+        }
+    }
+}
