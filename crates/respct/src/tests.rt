@@ -12,6 +12,10 @@ use std::test::Fail;
 const HEAD: &str =
     "respct 1\nthreads 1\nshards 1\nlines 16\nevery 1\nturns rr 384\nkeep none\nthread 0\n";
 
+/// A whole script of two threads.
+const TWO_THREADS: &str =
+    "respct 1\nthreads 2\nshards 1\nlines 16\nevery 1\nturns rr 384\nkeep none\nthread 0\nput 5 7\nget 5\nend\nthread 1\nend\n";
+
 /// The report of a put and a get of the same key.
 const REPORT: &str =
     "respct-report 1\nlife start\nbegan 1\nentry 0 0 put 5 7 = new\nentry 0 1 get 5 = is 7\nflushed 0\nend finished\n";
@@ -70,7 +74,7 @@ fn other_words_are_refused(rt: HostRuntime) -> Result<(), Fail> {
 
 #[test]
 fn another_form_is_not_built(rt: HostRuntime) -> Result<(), Fail> {
-    let text = Vec::from_slice(rt.alloc(), b"respct 1\nthreads 2\n")?;
+    let text = Vec::from_slice(rt.alloc(), TWO_THREADS.as_bytes())?;
     let mut source = MemorySource::new(text, Vec::new(rt.alloc()));
     let mut sink = MemorySink::new(rt.alloc(), Vec::new(rt.alloc()));
     let status = run(rt, "start", &mut source, &mut sink)?;
