@@ -49,7 +49,7 @@ impl Bank {
         self.lines.len() as u32
     }
 
-    /// The last store that is pending on the word, else the base word.
+    /// The last store that is pending on the word, else the base word. Its time is the same however many are pending.
     pub fn load(&self, line: u32, word: u32) -> u64
         requires line { line < length self.now.lines }
         requires word { word < 8 }

@@ -5,6 +5,9 @@
 //! for more. A store becomes pending, a write-back asks for all that is pending, a fence moves what was asked for into
 //! the base. A power cut leaves a line as its base with any first part of its pending stores made, asked for or not.
 //!
+//! A line also keeps its words by loads: the base with all pending stores made. So a load costs the same however many
+//! stores are pending. No contract sees these words; the type's invariant ties them to the base and the stores.
+//!
 //! A contract sees a bank as a list of lines and a count of write-backs, and each call that changes a bank as one named
 //! function from the old bank to the new one. Proved here: that the calls are these functions; that every line keeps
 //! eight words of 64 bits; and the laws of `laws` on loads and on what a power cut can leave. What these words mean to

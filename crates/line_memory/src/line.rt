@@ -1,31 +1,33 @@
-//! One line: its base words and its pending stores. A store, a write-back and a fence take no memory, since the room
-//! for the stores is made before.
+//! One line: its base words and its pending stores, and beside them its words by loads, so that a load reads one word
+//! and looks at no store. A store, a write-back and a fence take no memory, since the room for the stores is made before.
 
 ghost use Rattle.std.specs.Prelude.{◌≡◌, ◌+◌, ◌-◌, ◌<◌, ◌≤◌, ◌^◌, length, slice_index, slice_set, slice_get, Some, OnOk, OnErr};
-ghost use Rattle.line_memory.specs.Line.{latest, applied, loaded, stored, store_to, written_back, fenced, quiet_line, with_spare, is_pending, is_unasked, IsLine};
+ghost use Rattle.line_memory.specs.Line.{applied, loaded, stored, store_to, written_back, fenced, quiet_line, with_spare, is_pending, is_unasked, IsLine};
 
 use crate::store::{Store, WORDS};
 use std::alloc::{AllocError, Global};
 use std::marker::Model;
 
-/// A line: what memory holds, and the stores that it does not hold yet.
+/// A line: what memory holds, the stores that it does not hold yet, and the words that loads give: the base with all
+/// pending stores made.
 #[derive(Drop)]
 pub struct Line {
     base: [u64; 8],
     pending: Vec<Store>,
+    words: [u64; 8],
     asked: usize,
     room: u32,
 }
 
 impl Model for Line {
-    ghost use Rattle.std.specs.Prelude.{◌+◌, ◌<◌, ◌≤◌, ◌^◌, vec_len, vec_capacity};
-    ghost use Rattle.line_memory.specs.Line.{LineState};
+    ghost use Rattle.std.specs.Prelude.{◌≡◌, ◌+◌, ◌<◌, ◌≤◌, ◌^◌, length, vec_len, vec_capacity};
+    ghost use Rattle.line_memory.specs.Line.{LineState, applied};
 
     ghost Value = { LineState };
 
     ghost view = { λ a. record { base = a.base; pending = a.pending.items; asked = a.asked; spare = a.room } };
 
-    ghost invariant = { λ a. (a.asked ≤ vec_len a.pending) × (vec_len a.pending + a.room ≤ vec_capacity a.pending) × (vec_len a.pending + a.room < 2 ^ 32) };
+    ghost invariant = { λ a. (a.asked ≤ vec_len a.pending) × (vec_len a.pending + a.room ≤ vec_capacity a.pending) × (vec_len a.pending + a.room < 2 ^ 32) × (length a.base ≡ 8) × (a.words ≡ applied a.base a.pending.items) };
 }
 
 impl Line {
@@ -37,17 +39,18 @@ impl Line {
         Line {
             base,
             pending: Vec::new(alloc),
+            words: base,
             asked: 0,
             room: 0,
         }
     }
 
-    /// The last store that is pending on the word, else the base word.
+    /// The last store that is pending on the word, else the base word. Its time is the same however many are pending.
     pub fn load(&self, word: u32) -> u64
         requires { word < 8 }
         ensures { result ≡ loaded self.now word }
     {
-        latest_of(self.base[word as usize], word, self.pending.as_slice())
+        self.words[word as usize]
     }
 
     /// The words that memory holds.
@@ -120,12 +123,13 @@ impl Line {
         Ok(())
     }
 
-    /// Makes a store pending, behind those that are.
+    /// Makes a store pending, behind those that are. Loads give it from now on.
     pub fn store(&mut self, word: u32, value: u64)
         requires { 0 < self.old.spare }
         ensures { self.new ≡ stored self.old word value }
     {
         self.pending.push(Store { word, value }).unwrap();
+        put_word(&mut self.words, word, value);
         self.room -= 1;
     }
 
@@ -136,7 +140,7 @@ impl Line {
         self.asked = self.pending.len();
     }
 
-    /// Moves the stores that were asked for into the base, in order.
+    /// Moves the stores that were asked for into the base, in order. What loads give stays.
     pub fn fence(&mut self)
         ensures { self.new ≡ fenced self.old }
     {
@@ -150,19 +154,6 @@ impl Line {
         self.room += asked as u32;
         self.asked = 0;
     }
-}
-
-/// The value of a word after these stores, where it was `value` before.
-fn latest_of(value: u64, word: u32, stores: &[Store]) -> u64
-    ensures { result ≡ latest value word stores.now }
-{
-    let mut last = value;
-    for store in stores {
-        if store.word == word {
-            last = store.value;
-        }
-    }
-    last
 }
 
 /// Makes these stores, in order.
