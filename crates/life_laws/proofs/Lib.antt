@@ -7,6 +7,7 @@ pub mod Words
 pub mod Safe
 pub mod Formats
 pub mod Works
+pub mod FewLines
 pub mod Ended
 pub mod Tried
 pub mod TriedEnds

@@ -66,7 +66,7 @@ ends_tried = record {
 
 -- the stores are computed
 pub stores_tried : StoreExamples
-stores_tried = record { put_absent = refl; other_room = refl }
+stores_tried = record { put_absent = refl; other_room = refl; three_lines = refl; third_line = refl; most_stores = refl; most_lines = refl }
 
 -- two turns name both threads
 both : NamesAll 2 (0 ∷ 1 ∷ [])

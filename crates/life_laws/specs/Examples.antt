@@ -1,5 +1,5 @@
 -- Lives that were worked out by hand, on which the definitions are tried: some that are legal, and for each clause one that is not.
-use Rattle.std.specs.Prelude.{◌≡◌, ℕ, false, List, [], ◌∷◌}
+use Rattle.std.specs.Prelude.{◌≡◌, ℕ, ◌==◌, ◌||◌, false, List, [], ◌∷◌, length}
 use Rattle.seq_object.specs.declared.settings.Settings.{Settings}
 use Rattle.seq_object.specs.declared.command.Command.{Command}
 use Rattle.seq_object.specs.declared.command.Command.TheVariants.{Put, Enq, Take}
@@ -11,13 +11,15 @@ use Rattle.seq_object.specs.Object.{no_contents}
 use Rattle.seq_object.specs.History.{first_state}
 use Rattle.room_model.specs.MapRoom.{map_layout}
 use Rattle.room_model.specs.Formatted.{formatted}
-use Rattle.room_model.specs.Writes.{store, command_stores}
+use Rattle.room_model.specs.declared.write.PlannedStore.{PlannedStore}
+use Rattle.room_model.specs.Writes.{store, stored_in, command_stores}
 use Rattle.life_model.specs.declared.life.Life.{Life}
 use Rattle.life_model.specs.declared.life.Life.TheVariants.{Start, Resume}
 use Rattle.life_model.specs.declared.life.Outcome.TheVariants.{Cut}
 use Rattle.life_model.specs.Life.{Opening, IsLegalLife}
 use Rattle.life_model.specs.Ends.{IsFinished, IsStalled, EndsAs}
 use Rattle.life_model.specs.Work.{Worked, IsFlushedLittle, OffersRounds, round_robin, worker_turns, HasWorked, ClosesSeldom, ClosesOncePerEntry}
+use Rattle.life_laws.specs.WorkLaws.{newly_pending}
 
 -- one shard and rooms of 16 lines, for so many threads with such a quota
 abbrev pub settings : ℕ → ℕ → Settings
@@ -156,15 +158,31 @@ pub record EndExamples : Type 0 where
   -- the queue has an item
   pub fed : IsStalled waiting (entry 1 0 (Enq 9) Done ∷ []) (1 ∷ []) → ⊥
 
+-- the stores of a first put, in epoch 1
+abbrev pub first_put : List PlannedStore
+first_put = command_stores map_layout (sizes_of (settings 1 1)) 1 0 (formatted 9) (Put 5 7)
+
+-- the stores of an item behind one of the epoch before, in epoch 2
+abbrev pub second_item : List PlannedStore
+second_item =
+    let z = sizes_of (settings 1 1) in
+    command_stores map_layout z 2 1 (stored_in (formatted 2) (command_stores map_layout z 1 1 (formatted 2) (Enq 5))) (Enq 6)
+
 -- the stores of a put of an absent key into a formatted room: the first write of each of three lines has five
 pub record StoreExamples : Type 0 where
-  pub put_absent : command_stores map_layout (sizes_of (settings 1 1)) 1 0 (formatted 9) (Put 5 7)
+  pub put_absent : first_put
       ≡ store 0 3 0 ∷ store 0 4 9 ∷ store 0 5 0 ∷ store 0 6 1 ∷ store 0 1 10
       ∷ store 9 3 0 ∷ store 9 4 0 ∷ store 9 5 0 ∷ store 9 6 1 ∷ store 9 0 5 ∷ store 9 1 7 ∷ store 9 2 0
       ∷ store 6 3 0 ∷ store 6 4 0 ∷ store 6 5 0 ∷ store 6 6 1 ∷ store 6 0 9
       ∷ store 0 2 1 ∷ []
   -- a command of another room has none
   pub other_room : command_stores map_layout (sizes_of (settings 1 1)) 1 1 (formatted 9) (Put 5 7) ≡ []
+  -- they make lines 0, 9 and 6 pending, and line 6 alone where the other two are
+  pub three_lines : newly_pending (λ line. false) first_put ≡ 3
+  pub third_line : newly_pending (λ line. (line == 0) || (line == 9)) first_put ≡ 1
+  -- no command has more stores than this item, nor more lines: 0, 3, 2 and 1
+  pub most_stores : length second_item ≡ 22
+  pub most_lines : newly_pending (λ line. false) second_item ≡ 4
 
 -- a worker of one command, one mark and one epoch
 abbrev pub worked_so : ℕ → Worked

@@ -1,9 +1,16 @@
--- The laws of how much work a life does: from bounds for each room and worker to those of the life; and rounds of a schedule.
-use Rattle.std.specs.Prelude.{◌≡◌, ℕ, ◌+◌, ◌*◌, ◌<◌, ◌≤◌, List, length}
+-- The laws of how much work a life does: from bounds for each room and worker to those of the life; the lines that the stores of a
+-- command make pending; and rounds of a schedule.
+use Rattle.std.specs.Prelude.{◌≡◌, ℕ, ◌+◌, ◌*◌, ◌<◌, ◌≤◌, ◌==◌, ◌||◌, Bool, List, [], ◌∷◌, length, if◌then◌else◌}
+use Rattle.line_memory.specs.Line.{BankState, AreLines, line_at, bank_stored, is_unasked, unasked}
+use Rattle.seq_object.specs.declared.command.Command.{Command}
 use Rattle.seq_object.specs.Sizes.{Sizes}
 use Rattle.seq_object.specs.declared.history.Entry.{Entry}
 use Rattle.seq_object.specs.History.{of_room, total}
+use Rattle.room_model.specs.declared.write.PlannedStore.{PlannedStore}
+use Rattle.room_model.specs.Chains.{RoomWords}
+use Rattle.room_model.specs.MapRoom.{MapLayout}
 use Rattle.room_model.specs.Rooms.{thread_room, super_room, room_count, line_total}
+use Rattle.room_model.specs.Writes.{command_stores}
 use Rattle.life_model.specs.declared.life.Life.TheVariants.{Start, Resume}
 use Rattle.room_model.specs.Image.{Image}
 use Rattle.life_model.specs.Life.{Opening, sizes, closings}
@@ -40,3 +47,24 @@ WorkerRoundsLaw = (z : Sizes) (rounds turns : ℕ) → 0 < z.threads
     → (z.threads * rounds ≤ turns → OffersRounds z.threads rounds (worker_turns Start z (round_robin z.threads 0 turns)))
     × (z.threads * rounds + 5 * line_total z ≤ turns
     → OffersRounds z.threads rounds (worker_turns Resume z (round_robin z.threads 0 turns)))
+
+-- how many lines these stores are the first to make pending, where these lines are pending before
+abbrev pub newly_pending : (ℕ → Bool) → List PlannedStore → ℕ
+newly_pending pending [] = 0
+newly_pending pending (s ∷ ss) = (if pending s.line then 0 else 1) + newly_pending (λ line. (s.line == line) || pending line) ss
+
+-- whether a line of a bank has a store that was not asked for
+abbrev pub is_unasked_in : BankState → ℕ → Bool
+is_unasked_in bank line = is_unasked (line_at bank.lines line)
+
+-- the stores of a command make at most four lines pending, whichever lines are pending before
+abbrev pub FewLinesLaw : Type 0
+FewLinesLaw = (layout : MapLayout) (z : Sizes) (epoch room : ℕ) (r : RoomWords) (command : Command) (pending : ℕ → Bool)
+    → newly_pending pending (command_stores layout z epoch room r command) ≤ 4
+
+-- the lines that have a store that was not asked for, and those that stores to come are the first to give one, are together as many
+-- after the first of these stores as before it
+abbrev pub NewlyPendingLaw : Type 0
+NewlyPendingLaw = (bank : BankState) (s : PlannedStore) (ss : List PlannedStore) → AreLines bank.lines → s.line < length bank.lines
+    → unasked (bank_stored bank s.line s.word s.value).lines + newly_pending (is_unasked_in (bank_stored bank s.line s.word s.value)) ss
+    ≡ unasked bank.lines + newly_pending (is_unasked_in bank) (s ∷ ss)
