@@ -2,3 +2,4 @@ pub mod Commands
 pub mod Queues
 pub mod Begins
 pub mod Walks
+pub mod TestRooms

@@ -1,3 +1,4 @@
 pub mod Plans
 pub mod Queue
 pub mod Laws
+pub mod Tests

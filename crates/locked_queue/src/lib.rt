@@ -16,13 +16,15 @@
 //! it has no reply exactly for a take of an empty queue, which changes nothing; it says full exactly where as many items are
 //! held as lines less two; the other calls leave the items; `entries` and `is_empty` read them by loads. Proved below: what each
 //! survivor of the cells has in their states, and how many stores a command has at most. Only above: that one thread at a
-//! time has the room, and what a memory of several rooms stands for. Nothing is tested yet: not that memory is found.
+//! time has the room, and what a memory of several rooms stands for. Only tested: that memory is found.
 #![tactic(auto)]
 
 mod laws;
 mod plans;
 mod reads;
 mod room;
+#[cfg(test)]
+mod tests;
 
 pub use laws::{full_law, items_law};
 pub use room::QueueRoom;

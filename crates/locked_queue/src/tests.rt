@@ -1,0 +1,468 @@
+//! A queue room of sixteen lines, behind the one map room of its memory, by hand: commands are carried out, epochs are closed
+//! and one is undone. The replies, the stores, the items and the words were worked out on paper.
+
+ghost use Rattle.std.specs.Prelude.{◌≡◌, ◌<◌, ◌+◌, [], length, IsTrue, IfOk};
+ghost use Rattle.seq_object.specs.Sizes.{sizes_of};
+ghost use Rattle.seq_object.specs.Object.{room_of};
+ghost use Rattle.line_memory.specs.Line.{bank_load};
+ghost use Rattle.room_model.specs.Formatted.{formatted};
+ghost use Rattle.incll_var.specs.Cells.{IsRunning, AreSettled, HasSameRecords};
+ghost use Rattle.command_room.specs.Room.{held_of};
+ghost use Rattle.locked_queue.specs.Tests.{IsIdle, HasFinished, IsQueueOf};
+
+use crate::QueueRoom;
+use incll_var::{CellBank, CellState, RestoreStep};
+use line_memory::Bank;
+use seq_object::{Command, Entry, Noted, Reply, Settings};
+use std::alloc::{AllocError, Global};
+use std::process::Abort;
+use std::test::Fail;
+
+const SETTINGS: Settings = Settings {
+    threads: 1,
+    shards: 1,
+    lines: 16,
+    every: 1,
+};
+
+/// A command, its reply where it has one, and how many stores it takes.
+type Row = (Command, Option<Reply>, u32);
+
+/// Makes sure that each line of a bank is settled at this epoch.
+fn settled(rt: &impl Abort, bank: &Bank, epoch: u32)
+    ensures { AreSettled epoch bank.now.lines }
+{
+    for line in 0..bank.lines() {
+        assert!(rt; bank.pending(line) == 0 && bank.base(line)[6] <= u64::from(epoch));
+    }
+}
+
+/// Whether the loads of a bank are those of a formatted queue room.
+fn is_formatted(bank: &Bank) -> bool
+    requires { 0 < length bank.now.lines }
+    ensures { IsTrue result → HasSameRecords (bank_load bank.now) (formatted 2) }
+{
+    for line in 0..bank.lines() {
+        let fresh = if line == 0 { 2 } else { 0 };
+        if bank.load(line, 0) != 0 || bank.load(line, 1) != fresh || bank.load(line, 2) != 0 {
+            return false;
+        }
+    }
+    true
+}
+
+/// Sixteen lines as a queue room is formatted, which it is made sure they are.
+fn formatted_bank(rt: &impl Abort, alloc: Global) -> Result<Bank, AllocError>
+    ensures settled { IfOk result (λ bank. AreSettled 0 bank.lines) }
+    ensures count { IfOk result (λ bank. length bank.lines ≡ 16) }
+    ensures loads { IfOk result (λ bank. HasSameRecords (bank_load bank) (formatted 2)) }
+{
+    let mut base = Vec::new(alloc);
+    base.push([0, 2, 0, 0, 0, 0, 0, 0])?;
+    base.extend_from_slice(&[[0; 8]; 15])?;
+    assert!(rt; base.len() == 16);
+    let bank = Bank::of(alloc, base)?;
+    settled(rt, &bank, 0);
+    assert!(rt; bank.lines() == 16);
+    assert!(rt; is_formatted(&bank));
+    Ok(bank)
+}
+
+/// The empty queue, entered in epoch 1.
+fn queue_room(rt: &impl Abort, alloc: Global) -> Result<QueueRoom, AllocError>
+    ensures state { IfOk result (λ room. room.cells.state ≡ CellState.Running 1) }
+    ensures idle { IfOk result (λ room. IsIdle SETTINGS room) }
+{
+    let bank = formatted_bank(rt, alloc)?;
+    let cells = CellBank::clean(alloc, bank, 0);
+    let mut room = QueueRoom::of(alloc, cells, SETTINGS);
+    room.enter(1);
+    Ok(room)
+}
+
+/// Whether this is a command of the queue.
+fn is_of_queue(command: Command) -> bool
+    ensures { IsTrue result → room_of (sizes_of SETTINGS) command ≡ 1 }
+{
+    match command {
+        Command::Enq(_) | Command::Deq | Command::Take => true,
+        _ => false,
+    }
+}
+
+/// Makes the stores that are left, and says how many they were.
+fn finish(room: &mut QueueRoom) -> u32
+    ensures { HasFinished room.old room.new }
+{
+    let stores = room.left();
+    while room.left() > 0 {
+        room.step();
+    }
+    stores
+}
+
+/// Carries out a command, and gives its reply, where it has one, and the number of its stores.
+fn carry_out(
+    rt: &impl Abort,
+    room: &mut QueueRoom,
+    command: Command,
+) -> Result<(Option<Reply>, u32), AllocError>
+    requires running { IsRunning room.old.cells.state }
+    requires idle { IsIdle SETTINGS room.old }
+    ensures state { room.new.cells.state ≡ room.old.cells.state }
+    ensures idle { IsIdle SETTINGS room.new }
+    ensures held { held_of room.new ≡ held_of room.old }
+{
+    assert!(rt; is_of_queue(command));
+    let ticket = room.history().len() as u64;
+    let Some(reply) = room.begin(command)? else {
+        return Ok((None, room.left()));
+    };
+    let stores = finish(room);
+    let entry = Entry {
+        thread: 0,
+        index: 0,
+        command,
+        reply,
+    };
+    room.note(ticket, entry);
+    Ok((Some(reply), stores))
+}
+
+/// Carries out these commands, and compares their replies and the numbers of their stores.
+fn carry_out_all(rt: &impl Abort, room: &mut QueueRoom, rows: &[Row]) -> Result<(), AllocError>
+    requires running { IsRunning room.old.cells.state }
+    requires idle { IsIdle SETTINGS room.old }
+    ensures state { room.new.cells.state ≡ room.old.cells.state }
+    ensures idle { IsIdle SETTINGS room.new }
+    ensures held { held_of room.new ≡ held_of room.old }
+{
+    for &(command, reply, stores) in rows {
+        assert!(rt; carry_out(rt, room, command)? == (reply, stores));
+    }
+    Ok(())
+}
+
+/// Puts these items at the back, which all find a place.
+fn fill(rt: &impl Abort, room: &mut QueueRoom, items: &[u64]) -> Result<(), AllocError>
+    requires running { IsRunning room.old.cells.state }
+    requires idle { IsIdle SETTINGS room.old }
+    ensures state { room.new.cells.state ≡ room.old.cells.state }
+    ensures idle { IsIdle SETTINGS room.new }
+{
+    for &item in items {
+        let (reply, _) = carry_out(rt, room, Command::Enq(item))?;
+        assert!(rt; reply == Some(Reply::Done));
+    }
+    Ok(())
+}
+
+/// Takes these items off the front.
+fn drain(rt: &impl Abort, room: &mut QueueRoom, items: &[u64]) -> Result<(), AllocError>
+    requires running { IsRunning room.old.cells.state }
+    requires idle { IsIdle SETTINGS room.old }
+    ensures state { room.new.cells.state ≡ room.old.cells.state }
+    ensures idle { IsIdle SETTINGS room.new }
+{
+    for &item in items {
+        let (reply, _) = carry_out(rt, room, Command::Deq)?;
+        assert!(rt; reply == Some(Reply::Found(item)));
+    }
+    Ok(())
+}
+
+/// Closes this epoch, and says how many lines were stored to in it.
+fn close(room: &mut QueueRoom, epoch: u32) -> u32
+    requires state { room.old.cells.state ≡ CellState.Running epoch }
+    requires idle { IsIdle SETTINGS room.old }
+    ensures state { room.new.cells.state ≡ CellState.Saved epoch }
+    ensures idle { IsIdle SETTINGS room.new }
+    ensures held { held_of room.new ≡ held_of room.old }
+{
+    let count = room.close_begin();
+    if count == 0 {
+        return 0;
+    }
+    let mut more = true;
+    while more {
+        more = room.close_next();
+    }
+    room.close_fence();
+    count
+}
+
+/// Enters the epoch behind the one that is saved.
+fn next_epoch(room: &mut QueueRoom, saved: u32, epoch: u32)
+    requires state { room.old.cells.state ≡ CellState.Saved saved }
+    requires later { saved < epoch }
+    requires idle { IsIdle SETTINGS room.old }
+    ensures state { room.new.cells.state ≡ CellState.Running epoch }
+    ensures idle { IsIdle SETTINGS room.new }
+    ensures held { IsQueueOf SETTINGS (held_of room.new) }
+{
+    let _history = room.history();
+    room.enter(epoch);
+}
+
+/// What a cut leaves of the room behind the closing of this epoch, where memory still has the epoch: the room, torn.
+fn cut_room(
+    rt: &impl Abort,
+    alloc: Global,
+    room: QueueRoom,
+    epoch: u32,
+) -> Result<QueueRoom, AllocError>
+    requires state { room.cells.state ≡ CellState.Saved epoch }
+    requires idle { IsIdle SETTINGS room }
+    requires held { IsQueueOf SETTINGS (held_of room) }
+    ensures state { IfOk result (λ room. room.cells.state ≡ CellState.Torn epoch) }
+    ensures idle { IfOk result (λ room. IsIdle SETTINGS room) }
+{
+    let bank = room.into_cells().into_bank();
+    settled(rt, &bank, epoch);
+    assert!(rt; bank.lines() == 16);
+    let cells = CellBank::torn(alloc, bank, epoch)?;
+    Ok(QueueRoom::of(alloc, cells, SETTINGS))
+}
+
+/// Whether a restore is finished.
+fn is_finished(step: RestoreStep) -> bool
+    ensures { IsTrue result → step ≡ RestoreStep.Finished }
+{
+    matches!(step, RestoreStep::Finished)
+}
+
+/// Restores the room, and compares the steps.
+fn restore(rt: &impl Abort, room: &mut QueueRoom, epoch: u32, steps: &[RestoreStep])
+    requires state { room.old.cells.state ≡ CellState.Torn epoch }
+    requires idle { IsIdle SETTINGS room.old }
+    ensures state { room.new.cells.state ≡ CellState.Saved epoch }
+    ensures idle { IsIdle SETTINGS room.new }
+{
+    for &step in steps {
+        assert!(rt; room.restore_next() == step);
+    }
+    assert!(rt; is_finished(room.restore_next()));
+}
+
+/// The bank under the room, of sixteen lines.
+fn bank_of(rt: &impl Abort, room: QueueRoom) -> Bank
+    ensures { length result.lines ≡ 16 }
+{
+    let bank = room.into_cells().into_bank();
+    assert!(rt; bank.lines() == 16);
+    bank
+}
+
+/// The record of a line by loads.
+fn record(rt: &impl Abort, bank: &Bank, line: u32) -> [u64; 3] {
+    assert!(rt; line < bank.lines());
+    [bank.load(line, 0), bank.load(line, 1), bank.load(line, 2)]
+}
+
+/// Whether these stores, each a word and a value, are pending on the line, in this order.
+fn has_pending(rt: &impl Abort, bank: &Bank, line: u32, stores: &[(u32, u64)]) -> bool {
+    assert!(rt; line < bank.lines());
+    let mut place = 0;
+    for &store in stores {
+        if place >= bank.pending(line) || bank.pending_at(line, place) != store {
+            return false;
+        }
+        place += 1;
+    }
+    place == bank.pending(line)
+}
+
+/// The entry of a command of the one thread.
+fn noted(ticket: u64, command: Command, reply: Reply) -> Noted {
+    Noted {
+        ticket,
+        entry: Entry {
+            thread: 0,
+            index: 0,
+            command,
+            reply,
+        },
+    }
+}
+
+#[test]
+fn the_stores_of_two_items(rt: HostRuntime) -> Result<(), Fail> {
+    let mut room = queue_room(&rt, rt.alloc())?;
+    let rows = [
+        (Command::Enq(40), Some(Reply::Done), 18),
+        (Command::Enq(50), Some(Reply::Done), 10),
+    ];
+    carry_out_all(&rt, &mut room, &rows)?;
+    let bank = bank_of(&rt, room);
+    let header = [
+        (3, 0),
+        (4, 2),
+        (5, 0),
+        (6, 1),
+        (1, 3),
+        (2, 1),
+        (1, 4),
+        (2, 2),
+    ];
+    let ends = [(3, 0), (4, 0), (5, 0), (6, 1), (0, 2), (1, 2), (1, 3)];
+    let first = [(3, 0), (4, 0), (5, 0), (6, 1), (0, 40), (1, 0), (1, 3)];
+    let second = [(3, 0), (4, 0), (5, 0), (6, 1), (0, 50), (1, 0)];
+    assert!(rt; has_pending(&rt, &bank, 0, &header));
+    assert!(rt; has_pending(&rt, &bank, 1, &ends));
+    assert!(rt; has_pending(&rt, &bank, 2, &first));
+    assert!(rt; has_pending(&rt, &bank, 3, &second));
+    Ok(())
+}
+
+#[test]
+fn the_first_of_two_items_off(rt: HostRuntime) -> Result<(), Fail> {
+    let mut room = queue_room(&rt, rt.alloc())?;
+    let rows = [
+        (Command::Enq(40), Some(Reply::Done), 18),
+        (Command::Enq(50), Some(Reply::Done), 10),
+        (Command::Deq, Some(Reply::Found(40)), 4),
+    ];
+    carry_out_all(&rt, &mut room, &rows)?;
+    let bank = bank_of(&rt, room);
+    assert_eq!(rt; record(&rt, &bank, 0), [2, 4, 1]);
+    assert_eq!(rt; record(&rt, &bank, 1), [3, 3, 0]);
+    assert_eq!(rt; record(&rt, &bank, 2), [0, 3, 0]);
+    assert_eq!(rt; record(&rt, &bank, 3), [50, 0, 0]);
+    Ok(())
+}
+
+#[test]
+fn the_last_item_off(rt: HostRuntime) -> Result<(), Fail> {
+    let mut room = queue_room(&rt, rt.alloc())?;
+    let rows = [
+        (Command::Enq(40), Some(Reply::Done), 18),
+        (Command::Deq, Some(Reply::Found(40)), 5),
+    ];
+    carry_out_all(&rt, &mut room, &rows)?;
+    assert!(rt; room.is_empty());
+    let bank = bank_of(&rt, room);
+    assert_eq!(rt; record(&rt, &bank, 0), [2, 3, 0]);
+    assert_eq!(rt; record(&rt, &bank, 1), [0, 0, 0]);
+    assert_eq!(rt; record(&rt, &bank, 2), [0, 0, 0]);
+    Ok(())
+}
+
+#[test]
+fn a_take_waits_where_the_queue_is_empty(rt: HostRuntime) -> Result<(), Fail> {
+    let mut room = queue_room(&rt, rt.alloc())?;
+    let rows = [
+        (Command::Take, None, 0),
+        (Command::Deq, Some(Reply::Empty), 0),
+        (Command::Enq(40), Some(Reply::Done), 18),
+        (Command::Take, Some(Reply::Found(40)), 5),
+        (Command::Take, None, 0),
+    ];
+    carry_out_all(&rt, &mut room, &rows)?;
+    let entries = [
+        noted(0, Command::Deq, Reply::Empty),
+        noted(1, Command::Enq(40), Reply::Done),
+        noted(2, Command::Take, Reply::Found(40)),
+    ];
+    assert!(rt; room.history() == entries.as_slice());
+    assert!(rt; room.is_empty());
+    Ok(())
+}
+
+#[test]
+fn full_empty_and_full_again(rt: HostRuntime) -> Result<(), Fail> {
+    let alloc = rt.alloc();
+    let mut room = queue_room(&rt, alloc)?;
+    let items = [1, 2, 3, 4, 5, 6, 7, 8, 9, 10, 11, 12, 13, 14];
+    let others = [21, 22, 23, 24, 25, 26, 27, 28, 29, 30, 31, 32, 33, 34];
+    let full = [(Command::Enq(90), Some(Reply::Full), 0)];
+    fill(&rt, &mut room, &items)?;
+    carry_out_all(&rt, &mut room, &full)?;
+    assert!(rt; room.entries(alloc)?.as_slice() == items.as_slice());
+    drain(&rt, &mut room, &items)?;
+    assert!(rt; room.entries(alloc)?.is_empty());
+    fill(&rt, &mut room, &others)?;
+    carry_out_all(&rt, &mut room, &full)?;
+    assert!(rt; !room.is_empty());
+    assert!(rt; room.entries(alloc)?.as_slice() == others.as_slice());
+    let bank = bank_of(&rt, room);
+    assert_eq!(rt; record(&rt, &bank, 0), [0, 16, 14]);
+    assert_eq!(rt; record(&rt, &bank, 1), [15, 2, 0]);
+    Ok(())
+}
+
+#[test]
+fn two_epochs(rt: HostRuntime) -> Result<(), Fail> {
+    let alloc = rt.alloc();
+    let mut room = queue_room(&rt, alloc)?;
+    let first = [
+        (Command::Enq(40), Some(Reply::Done), 18),
+        (Command::Enq(50), Some(Reply::Done), 10),
+    ];
+    carry_out_all(&rt, &mut room, &first)?;
+    assert_eq!(rt; close(&mut room, 1), 4);
+    next_epoch(&mut room, 1, 2);
+    let second = [
+        (Command::Take, Some(Reply::Found(40)), 16),
+        (Command::Deq, Some(Reply::Found(50)), 9),
+        (Command::Enq(60), Some(Reply::Done), 6),
+    ];
+    carry_out_all(&rt, &mut room, &second)?;
+    assert_eq!(rt; close(&mut room, 2), 4);
+    assert!(rt; room.restore_next() == RestoreStep::Finished);
+    assert!(rt; room.entries(alloc)?.as_slice() == [60].as_slice());
+    let bank = bank_of(&rt, room);
+    assert_eq!(rt; bank.base(0), [2, 4, 1, 0, 4, 2, 2, 0]);
+    assert_eq!(rt; bank.base(1), [3, 3, 0, 2, 3, 0, 2, 0]);
+    assert_eq!(rt; bank.base(2), [0, 3, 0, 40, 3, 0, 2, 0]);
+    assert_eq!(rt; bank.base(3), [60, 0, 0, 50, 0, 0, 2, 0]);
+    Ok(())
+}
+
+#[test]
+fn an_epoch_that_is_undone(rt: HostRuntime) -> Result<(), Fail> {
+    let alloc = rt.alloc();
+    let mut room = queue_room(&rt, alloc)?;
+    let first = [
+        (Command::Enq(40), Some(Reply::Done), 18),
+        (Command::Enq(50), Some(Reply::Done), 10),
+    ];
+    carry_out_all(&rt, &mut room, &first)?;
+    assert_eq!(rt; close(&mut room, 1), 4);
+    next_epoch(&mut room, 1, 2);
+    let second = [
+        (Command::Take, Some(Reply::Found(40)), 16),
+        (Command::Enq(60), Some(Reply::Done), 10),
+    ];
+    carry_out_all(&rt, &mut room, &second)?;
+    assert_eq!(rt; close(&mut room, 2), 4);
+    let mut room = cut_room(&rt, alloc, room, 2)?;
+    let steps = [
+        RestoreStep::Stored,
+        RestoreStep::Stored,
+        RestoreStep::Stored,
+        RestoreStep::Stored,
+        RestoreStep::Stored,
+        RestoreStep::Stored,
+        RestoreStep::Stored,
+        RestoreStep::Stored,
+        RestoreStep::Stored,
+        RestoreStep::Stored,
+        RestoreStep::Stored,
+        RestoreStep::Stored,
+        RestoreStep::Wrote,
+        RestoreStep::Wrote,
+        RestoreStep::Wrote,
+        RestoreStep::Wrote,
+        RestoreStep::Fenced,
+    ];
+    restore(&rt, &mut room, 2, &steps);
+    assert!(rt; room.entries(alloc)?.as_slice() == [40, 50].as_slice());
+    next_epoch(&mut room, 2, 3);
+    let third = [
+        (Command::Deq, Some(Reply::Found(40)), 16),
+        (Command::Deq, Some(Reply::Found(50)), 9),
+        (Command::Deq, Some(Reply::Empty), 0),
+    ];
+    carry_out_all(&rt, &mut room, &third)?;
+    Ok(())
+}
