@@ -1,15 +1,15 @@
 -- What the begin of a command makes of a room: behind its stores the room holds what the object holds next.
-use Rattle.std.proofs.Common.{◌≡◌, ℕ, ◌<◌, ◌==◌, Bool, Option, Some, None, List, [], ◌∷◌, length, refl, arith, ap, sym, ◌∙◌, subst, eq-eqb, if◌then◌else◌}
+use Rattle.std.proofs.Common.{◌≡◌, ℕ, ◌<◌, Bool, Some, List, [], length, arith, ap, sym, ◌∙◌, subst, eq-eqb, if◌then◌else◌}
 use Rattle.seq_object.specs.declared.command.Command.{Command}
 use Rattle.seq_object.specs.declared.command.Reply.{Reply}
 use Rattle.seq_object.specs.Sizes.{Sizes, AreValid}
-use Rattle.seq_object.specs.Object.{Contents, room_of, reply_to, contents_after}
-use Rattle.line_memory.specs.Line.{LineState, BankState, bank_load}
+use Rattle.seq_object.specs.Object.{room_of, reply_to, contents_after}
+use Rattle.line_memory.specs.Line.{BankState, bank_load}
 use Rattle.room_model.specs.declared.write.PlannedStore.{PlannedStore}
 use Rattle.room_model.specs.declared.write.Write.{Write}
 use Rattle.room_model.specs.Chains.{RoomWords}
 use Rattle.room_model.specs.MapRoom.{map_layout}
-use Rattle.room_model.specs.Writes.{written, writes_of, stored_in, stores_behind, command_stores, answer_of}
+use Rattle.room_model.specs.Writes.{written, writes_of, stored_in, stores_behind, command_stores}
 use Rattle.room_laws.specs.Walks.{contents_of}
 use Rattle.room_laws.specs.Rooms.{IsRoom, HasSameRecords, AreWithin}
 use Rattle.room_laws.specs.Commands.{IsAfter}
@@ -17,13 +17,11 @@ use Rattle.room_laws.proofs.AllRows.{command_reply, within}
 use Rattle.room_laws.proofs.MapLaws.{layouts}
 use Rattle.room_laws.proofs.Planned.{all_stores, of_records}
 use Rattle.room_laws.proofs.RoomSteps.{room_step}
-use Rattle.incll_var.specs.Cells.{CellBankState, IsCellBank, HasSameCells, epoch_of}
-use Rattle.incll_var.specs.Plans.{PlanState, IsPlanned, HasRoomFor, AreInRange, cleared}
+use Rattle.incll_var.specs.Cells.{IsCellBank, HasSameCells, epoch_of}
+use Rattle.incll_var.specs.Plans.{PlanState, IsPlanned, HasRoomFor}
 use Rattle.incll_var.proofs.MoreRoom.{same_planned, no_plan}
-use Rattle.command_room.specs.declared.under_way.UnderWay.{UnderWay}
 use Rattle.command_room.specs.declared.room.CommandRoom.{CommandRoom}
-use Rattle.command_room.specs.Noted.{NotedState}
-use Rattle.command_room.specs.Room.{words_in, words_of, sizes_in, contents_in, IsCommandRoom, HasPlanned, unplanned, with_entries, on_bank, begun}
+use Rattle.command_room.specs.Room.{words_in, words_of, sizes_in, contents_in, IsCommandRoom, HasPlanned, unplanned, begun}
 use Rattle.command_room.proofs.Words.{laid, loads-same, running_words, same_words, same_room, HoldsSame}
 use Rattle.command_room.proofs.Moves.{Keeps, moved_law}
 use Rattle.command_room.proofs.Plannings.{writes_planned}

@@ -1,15 +1,14 @@
 -- What the tests rest on: a formatted queue room by its loads, and the first item put into it.
-use Rattle.std.proofs.Common.{◌≡◌, ℕ, ◌<◌, ◌≤◌, ◌+◌, ◌==◌, ◌&&◌, Bool, true, false, List, [], ◌∷◌, ◌++◌, Some, refl, arith, sym, ap, ◌∙◌, subst, inl, inr, length, eq-eqb, if◌then◌else◌}
+use Rattle.std.proofs.Common.{◌≡◌, ℕ, ◌<◌, ◌≤◌, ◌+◌, ◌==◌, ◌&&◌, Bool, false, List, [], ◌∷◌, ◌++◌, Some, arith, sym, ap, ◌∙◌, subst, inl, inr, length, eq-eqb, if◌then◌else◌}
 use Rattle.std.proofs.Math.ListN.{get_or-eq_default}
 use Rattle.seq_object.specs.declared.command.Command.TheVariants.{Enq}
 use Rattle.seq_object.specs.declared.command.Reply.TheVariants.{Full, Done}
 use Rattle.seq_object.specs.Sizes.{Sizes}
-use Rattle.line_memory.specs.Line.{LineState, BankState, line_at, loaded, no_line, bank_load}
+use Rattle.line_memory.specs.Line.{LineState, BankState, loaded, no_line, bank_load}
 use Rattle.room_model.specs.declared.write.Write.{Write}
-use Rattle.room_model.specs.declared.write.PlannedStore.{PlannedStore}
 use Rattle.room_model.specs.Chains.{RoomWords}
 use Rattle.room_model.specs.MapRoom.{map_layout}
-use Rattle.room_model.specs.Writes.{write, is_full, taken_line, take_write, link_writes, enq_room, enq_writes, write_stores, stores_behind, command_stores, answer_of}
+use Rattle.room_model.specs.Writes.{write, is_full, enq_room, enq_writes, write_stores, stores_behind, command_stores, answer_of}
 use Rattle.room_model.specs.Formatted.{formatted}
 use Rattle.incll_var.specs.declared.state.CellState.TheVariants.{Saved}
 use Rattle.incll_var.specs.Cells.{CellBankState, IsCellBank, IsSaved, HasSameRecords, cells_in}

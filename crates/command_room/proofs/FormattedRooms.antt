@@ -1,5 +1,5 @@
 -- A formatted room is one.
-use Rattle.std.proofs.Common.{◌≡◌, ℕ, ◌≤◌, ◌==◌, Bool, List, [], refl, arith, sym, ap, ◌∙◌, subst, if◌then◌else◌}
+use Rattle.std.proofs.Common.{◌≡◌, ℕ, ◌≤◌, ◌==◌, Bool, [], refl, arith, sym, subst, if◌then◌else◌}
 use Rattle.seq_object.specs.Sizes.{Sizes, sizes_of, AreValid}
 use Rattle.seq_object.specs.Object.{no_contents}
 use Rattle.line_memory.specs.Line.{BankState, bank_load}

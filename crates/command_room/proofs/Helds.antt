@@ -1,7 +1,7 @@
 -- What memory holds of a room, at the epoch of its cells, stays.
-use Rattle.std.proofs.Common.{◌≡◌, ℕ, ◌<◌, ◌==◌, Bool, List, [], ◌∷◌, length, refl, ap, sym, ◌∙◌, subst, inl, inr, get_or-set_same, get_or-set_other, if◌then◌else◌}
+use Rattle.std.proofs.Common.{◌≡◌, ℕ, ◌<◌, ◌==◌, Bool, List, [], ◌∷◌, length, refl, ap, sym, ◌∙◌, inl, inr, get_or-set_same, get_or-set_other, if◌then◌else◌}
 use Rattle.std.proofs.lemmas.Bool.Decides.{eqb_tells}
-use Rattle.line_memory.specs.Line.{LineState, BankState, line_at, no_line, with_line, stored, written_back, bank_stored, bank_written_back}
+use Rattle.line_memory.specs.Line.{LineState, BankState, line_at, no_line, with_line, stored, written_back}
 use Rattle.room_model.specs.declared.write.PlannedStore.{PlannedStore}
 use Rattle.room_laws.proofs.Tests.{by_Bool}
 use Rattle.incll_var.specs.declared.state.CellState.{CellState}

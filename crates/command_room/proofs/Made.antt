@@ -1,7 +1,7 @@
 -- How far the stores of a command are made.
 use Rattle.std.proofs.Common.{◌≡◌, ℕ, ◌+◌, ◌<◌, zero, suc, List, [], ◌∷◌, ◌++◌, length, take, drop, refl, arith, ap, sym, ◌∙◌, subst, append-nil}
 use Rattle.std.proofs.lemmas.List.{take-append-drop}
-use Rattle.line_memory.specs.Line.{BankState, bank_load}
+use Rattle.line_memory.specs.Line.{bank_load}
 use Rattle.room_model.specs.declared.write.PlannedStore.{PlannedStore}
 use Rattle.room_model.specs.Chains.{RoomWords, with_word}
 use Rattle.room_model.specs.Writes.{stored_in}
@@ -9,8 +9,7 @@ use Rattle.room_laws.proofs.Planned.{stored-append}
 use Rattle.incll_var.specs.Cells.{CellBankState, played}
 use Rattle.incll_var.specs.Plans.{AreInRange, behind_first}
 use Rattle.incll_var.proofs.Behind.{stored_loads}
-use Rattle.command_room.specs.declared.room.CommandRoom.{CommandRoom}
-use Rattle.command_room.specs.Laws.{HasMade, NoneMadeLaw, OneMoreMadeLaw, AllMadeLaw}
+use Rattle.command_room.specs.Laws.{NoneMadeLaw, OneMoreMadeLaw, AllMadeLaw}
 use Rattle.command_room.proofs.Words.{loads-same}
 
 -- the law on a command that is begun

@@ -1,8 +1,7 @@
 -- What enter, the closing and a restore make of a room: the cells change their state, and the room holds the same.
-use Rattle.std.proofs.Common.{◌≡◌, ◌≢◌, ℕ, ◌<◌, ◌==◌, Bool, Option, Some, None, List, [], ◌∷◌, length, map, refl, ap, sym, ◌∙◌, subst, arith, length-set, if◌then◌else◌}
+use Rattle.std.proofs.Common.{◌≡◌, ℕ, ◌==◌, Bool, Option, Some, None, List, [], ◌∷◌, length, refl, ap, sym, ◌∙◌, subst, arith, length-set, if◌then◌else◌}
 use Rattle.std.proofs.Math.ListN.{length-map}
-use Rattle.seq_object.specs.Sizes.{Sizes}
-use Rattle.line_memory.specs.Line.{LineState, BankState, bank_load, bank_fenced, bank_written_back, fenced}
+use Rattle.line_memory.specs.Line.{LineState, BankState, bank_load, bank_fenced, fenced}
 use Rattle.room_model.specs.declared.write.PlannedStore.{PlannedStore}
 use Rattle.room_model.specs.Chains.{RoomWords}
 use Rattle.room_model.specs.MapRoom.{map_layout}
@@ -14,7 +13,7 @@ use Rattle.incll_var.specs.declared.state.CellState.TheVariants.{Torn, Running, 
 use Rattle.incll_var.specs.declared.restore.RestoreEvent.{RestoreEvent}
 use Rattle.incll_var.specs.declared.restore.RestoreEvent.TheVariants.{Restores, Asks, Fences}
 use Rattle.incll_var.specs.Restore.{bank_after, lines_after}
-use Rattle.incll_var.specs.Cells.{CellBankState, IsCellBank, IsRunning, IsClosing, IsTorn, IsTodo, MayEnter, MayClose, MayRestore, HasSameRoom, WritesOneBack, epoch_of, held_at, closing_state, with_state, restored_on, after_next}
+use Rattle.incll_var.specs.Cells.{CellBankState, IsCellBank, IsRunning, IsClosing, IsTorn, IsTodo, MayEnter, MayRestore, HasSameRoom, WritesOneBack, epoch_of, held_at, closing_state, with_state, restored_on, after_next}
 use Rattle.incll_var.specs.Plans.{PlanState, IsPlanned, HasRoomFor}
 use Rattle.incll_var.proofs.MoreRoom.{no_plan}
 use Rattle.command_room.specs.declared.under_way.UnderWay.{UnderWay}

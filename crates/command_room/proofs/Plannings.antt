@@ -1,14 +1,11 @@
 -- What a room may plan, and that planned writes may be stored.
-use Rattle.std.proofs.Common.{◌≡◌, ℕ, List, [], ◌∷◌, ◌++◌, refl, sym, ap, ◌∙◌, subst, length}
+use Rattle.std.proofs.Common.{◌≡◌, [], ◌∷◌, ◌++◌, refl, sym, ap}
 use Rattle.line_memory.specs.Line.{bank_load}
-use Rattle.room_model.specs.declared.write.PlannedStore.{PlannedStore}
-use Rattle.room_model.specs.declared.write.Write.{Write}
 use Rattle.room_model.specs.MapRoom.{map_layout}
-use Rattle.room_model.specs.Rooms.{StandsFor}
 use Rattle.room_model.specs.Writes.{write_stores}
 use Rattle.room_laws.proofs.OneContents.{is_room}
-use Rattle.incll_var.specs.Cells.{CellBankState, epoch_of}
-use Rattle.incll_var.specs.Plans.{PlanState, cleared}
+use Rattle.incll_var.specs.Cells.{epoch_of}
+use Rattle.incll_var.specs.Plans.{cleared}
 use Rattle.incll_var.proofs.Planned.{planned_more}
 use Rattle.command_room.specs.Room.{words_of, words_in, sizes_in}
 use Rattle.command_room.specs.Laws.{PlanningLaw, WritesPlannedLaw, WholeLaw}

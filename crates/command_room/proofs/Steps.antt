@@ -1,19 +1,18 @@
 -- What a step and the end of a command make of a room.
 use Rattle.std.proofs.Common.{◌≡◌, ℕ, ◌<◌, Option, Some, None, List, [], ◌∷◌, length, refl, arith, ap, sym, ◌∙◌, subst, length-set}
-use Rattle.line_memory.specs.Line.{BankState, bank_load}
+use Rattle.line_memory.specs.Line.{bank_load}
 use Rattle.room_model.specs.declared.write.PlannedStore.{PlannedStore}
-use Rattle.room_model.specs.Chains.{RoomWords}
 use Rattle.room_model.specs.MapRoom.{map_layout}
 use Rattle.room_model.specs.Writes.{stored_in}
 use Rattle.room_laws.specs.Walks.{contents_of}
 use Rattle.room_laws.specs.Rooms.{IsRoom}
 use Rattle.incll_var.specs.declared.state.CellState.{CellState}
 use Rattle.incll_var.specs.Cells.{CellBankState, IsCellBank, IsRunning, epoch_of, played}
-use Rattle.incll_var.specs.Plans.{PlanState, IsPlanned, HasRoomFor, plan_behind}
+use Rattle.incll_var.specs.Plans.{PlanState, IsPlanned, HasRoomFor}
 use Rattle.command_room.specs.declared.under_way.UnderWay.{UnderWay}
 use Rattle.command_room.specs.declared.room.CommandRoom.{CommandRoom}
 use Rattle.command_room.specs.Noted.{NotedState}
-use Rattle.command_room.specs.Room.{words_in, words_of, sizes_in, contents_in, IsGoing, IsCommandRoom}
+use Rattle.command_room.specs.Room.{words_in, words_of, sizes_in, IsGoing, IsCommandRoom}
 use Rattle.command_room.proofs.Words.{running_words}
 use Rattle.command_room.proofs.Moves.{Keeps}
 

@@ -15,11 +15,11 @@ use Rattle.room_laws.specs.Walks.{contents_of}
 use Rattle.room_laws.specs.Rooms.{IsRoom}
 use Rattle.incll_var.specs.declared.state.CellState.{CellState}
 use Rattle.incll_var.specs.declared.state.CellState.TheVariants.{Torn, Running, Closing, Saved}
-use Rattle.incll_var.specs.Cells.{CellBankState, IsCellBank, IsRunning, epoch_of, held_at, played, with_state, closing_state}
+use Rattle.incll_var.specs.Cells.{CellBankState, IsCellBank, IsRunning, epoch_of, held_at, played, with_state}
 use Rattle.incll_var.specs.Plans.{PlanState, IsPlanned, HasRoomFor, plan_behind, cleared}
 use Rattle.command_room.specs.declared.under_way.UnderWay.{UnderWay}
 use Rattle.command_room.specs.declared.room.CommandRoom.{CommandRoom}
-use Rattle.command_room.specs.Noted.{NotedState, none_noted, with_entry}
+use Rattle.command_room.specs.Noted.{none_noted, with_entry}
 
 -- the words that cells mean where these stores are left to be made: behind the stores; of torn cells, what the restore brings back
 abbrev pub words_in : CellState → BankState → List PlannedStore → RoomWords

@@ -1,14 +1,14 @@
 -- The line that is taken: it lies in the room, and stands in no chain.
-use Rattle.std.proofs.Common.{◌≡◌, ◌≢◌, ℕ, ◌<◌, ◌≤◌, ◌==◌, ◌&&◌, Bool, true, false, refl, sym, ap, ◌∙◌, subst, arith, eq-eqb, if◌then◌else◌}
+use Rattle.std.proofs.Common.{◌≡◌, ◌≢◌, ℕ, ◌≤◌, ◌==◌, ◌&&◌, Bool, false, refl, sym, ap, ◌∙◌, subst, eq-eqb, if◌then◌else◌}
 use Rattle.std.proofs.lemmas.Bool.{ne_eqb}
 use Rattle.std.specs.Prelude.{IfOk, Result, Ok, Err}
 use Rattle.line_alloc.specs.declared.refusal.TakeRefusal.{TakeRefusal}
 use Rattle.room_model.specs.Chains.{RoomWords, times}
-use Rattle.room_model.specs.MapRoom.{map_layout, IsMapLayout}
-use Rattle.room_model.specs.Writes.{taken_line, take_write, write}
+use Rattle.room_model.specs.MapRoom.{map_layout}
+use Rattle.room_model.specs.Writes.{taken_line}
 use Rattle.room_laws.proofs.MapLaws.{layouts}
 use Rattle.room_laws.proofs.StockLaws.{map_take_law, queue_take_law, map_bounds_law, queue_bounds_law}
-use Rattle.line_alloc.specs.Headers.{IsHeader, has_none, IsInNoChainOfMap, IsInNoChainOfQueue}
+use Rattle.line_alloc.specs.Headers.{has_none, IsInNoChainOfMap, IsInNoChainOfQueue}
 use Rattle.line_alloc.specs.Laws.{MapHasHeaderLaw, QueueHasHeaderLaw, HasNoneLaw}
 
 -- the law on the header of a map room

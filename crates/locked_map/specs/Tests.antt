@@ -1,5 +1,5 @@
 -- What the tests know of their room.
-use Rattle.std.specs.Prelude.{◌≡◌, ℕ, None, []}
+use Rattle.std.specs.Prelude.{◌≡◌, None, []}
 use Rattle.seq_object.specs.declared.settings.Settings.{Settings}
 use Rattle.command_room.specs.declared.room.CommandRoom.{CommandRoom}
 

@@ -1,4 +1,4 @@
-use Rattle.std.proofs.Common.{◌≡◌, ◌≢◌, ◌∙◌, sym, arith, rules, length, subst}
+use Rattle.std.proofs.Common.{◌≢◌, ◌∙◌, rules, length}
 use Rattle.line_memory.specs.Line.{bank_load}
 use Rattle.line_alloc.proofs.Taken.{free_taken, free_left, taken_map, taken_queue}
 use Rattle.line_alloc.proofs.plans.plan_take.Goals as goal

@@ -1,5 +1,4 @@
-use Rattle.std.proofs.Common.{sym, ap, ◌∙◌}
-use Rattle.incll_var.specs.declared.state.CellState.{CellState}
+use Rattle.std.proofs.Common.{ap, ◌∙◌}
 use Rattle.command_room.specs.declared.room.CommandRoom.{CommandRoom}
 use Rattle.locked_map.proofs.TestRooms.{played-state}
 use Rattle.locked_map.proofs.tests.finish.Goals as goal
