@@ -1,0 +1,11 @@
+pub mod MetLines
+pub mod QueueChecks
+pub mod MapChecks
+pub mod ImageChecks
+pub mod Walks
+pub mod Marking
+pub mod QueueWalks
+pub mod Noting
+pub mod BucketWalks
+pub mod ImageWalks
+pub mod Views

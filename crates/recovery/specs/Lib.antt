@@ -1,0 +1,9 @@
+pub mod Cells
+pub mod Meeting
+pub mod Marks
+pub mod QueueFaults
+pub mod MapFaults
+pub mod Keyed
+pub mod ImageFaults
+pub mod Recovered
+pub mod Laws

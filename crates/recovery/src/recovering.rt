@@ -1,0 +1,100 @@
+//! What a lawful image recovers to.
+
+ghost use Rattle.std.specs.Prelude.{◌≡◌, ℕ, ◌<◌, ◌≤◌, Some, None, Err, length, slice_index, IfOk};
+ghost use Rattle.seq_object.specs.Plain.{listed};
+ghost use Rattle.room_model.specs.MapRoom.{map_layout};
+ghost use Rattle.room_model.specs.Image.{recovered_room, IsLawful};
+ghost use Rattle.room_model.specs.Rooms.{thread_room};
+ghost use Rattle.room_laws.specs.Walks.{items_of};
+ghost use Rattle.power_cut.specs.Image.{sizes_in, rooms_in, IsWhole};
+ghost use Rattle.power_cut.specs.declared.fault.ImageFault.{ImageFault};
+ghost use Rattle.power_cut.specs.declared.fault.ReadImageRefusal.TheVariants.{Fault};
+ghost use Rattle.recovery.specs.Cells.{words_of, sizes_at, HasLines, rooms_of, sizes_of_view, layout_of_view, IsView};
+ghost use Rattle.recovery.specs.Keyed.{pairs_in};
+ghost use Rattle.recovery.specs.QueueFaults.{queue_fault};
+ghost use Rattle.recovery.specs.ImageFaults.{image_fault};
+ghost use Rattle.recovery.specs.Recovered.{HasAllPairs, IsRecovered};
+
+use crate::cells::Cells;
+use crate::checking::first_fault;
+use crate::recovered::Recovered;
+use crate::view::View;
+use power_cut::{Image, ReadImageRefusal};
+use seq_object::Pair;
+use std::alloc::{AllocError, Global};
+use std::collections::BTreeMap;
+
+/// What a whole image recovers to. It does so exactly where the image is lawful; else the refusal is the first fault in this
+/// order: the epoch, the first tag that is ahead of it, then the rooms one by one. Want of memory may come in place of
+/// either.
+pub fn check_image(alloc: Global, image: &Image) -> Result<Recovered, ReadImageRefusal>
+    requires whole { IsWhole image.now }
+    ensures recovers { IfOk result (λ found. IsRecovered map_layout (sizes_in image.now) (rooms_in image.now) found) }
+    ensures first { (fault : ImageFault) → result ≡ Err (Fault fault) → image_fault map_layout (sizes_in image.now) (rooms_in image.now) ≡ Some fault }
+    ensures unlawful { (fault : ImageFault) → result ≡ Err (Fault fault) → IsLawful map_layout (sizes_in image.now) (rooms_in image.now) → ⊥ }
+{
+    let view = View::of(image);
+    let mut pairs = BTreeMap::new(alloc);
+    match first_fault(alloc, view, &mut pairs)? {
+        Some(fault) => Err(ReadImageRefusal::Fault(fault)),
+        None => Ok(recovered(alloc, view, &pairs)?),
+    }
+}
+
+/// What an image without a fault recovers to, with the pairs of all shards. Want of memory is the one refusal.
+fn recovered(alloc: Global, view: View, pairs: &BTreeMap<u64, u64>) -> Result<Recovered, AllocError>
+    requires view { IsView view }
+    requires faultless { image_fault (layout_of_view view) (sizes_of_view view) (rooms_of view) ≡ None }
+    requires pairs { HasAllPairs (layout_of_view view) (sizes_of_view view) (rooms_of view) (pairs_in pairs.now.entries) }
+    ensures { IfOk result (λ found. IsRecovered (layout_of_view view.entry) (sizes_of_view view.entry) (rooms_of view.entry) found) }
+{
+    Ok(Recovered {
+        epoch: view.epoch as u32,
+        positions: positions(alloc, view)?,
+        pairs: listed_pairs(alloc, pairs)?,
+        items: queue_items(alloc, view.cells(view.sizes.shards))?,
+    })
+}
+
+/// The positions of the threads, by their numbers.
+fn positions(alloc: Global, view: View) -> Result<Vec<u64>, AllocError>
+    requires { IsView view }
+    ensures many { IfOk result (λ positions. length positions.items ≡ view.entry.sizes.threads) }
+    ensures words { IfOk result (λ positions. (thread : ℕ) → thread < view.entry.sizes.threads → slice_index positions.items thread ≡ recovered_room (sizes_of_view view.entry) (rooms_of view.entry) (thread_room (sizes_of_view view.entry) thread) 0 0) }
+{
+    let mut positions = Vec::with_capacity(alloc, view.sizes.threads as usize)?;
+    for thread in 0..view.sizes.threads {
+        positions.push(view.cells(view.sizes.shards + 1 + thread).word(0, 0))?;
+    }
+    Ok(positions)
+}
+
+/// The pairs of a tree, in the order of their keys.
+fn listed_pairs(alloc: Global, pairs: &BTreeMap<u64, u64>) -> Result<Vec<Pair>, AllocError>
+    ensures { IfOk result (λ list. list.items ≡ listed (pairs_in pairs.now.entries)) }
+{
+    pairs
+        .iter()
+        .map(|(&key, &value)| Pair { key, value })
+        .collect(alloc)
+}
+
+/// The items of a queue room without a fault, from front to back.
+fn queue_items(alloc: Global, cells: Cells) -> Result<Vec<u64>, AllocError>
+    requires lines { HasLines cells }
+    requires two { 2 ≤ cells.sizes.lines }
+    requires faultless { queue_fault (sizes_at cells) (words_of cells) ≡ None }
+    ensures { IfOk result (λ items. items.items ≡ items_of (sizes_at cells.entry) (words_of cells.entry)) }
+{
+    let mut items = Vec::new(alloc);
+    let mut line = cells.word(1, 0);
+    for _step in 0..cells.sizes.lines {
+        if line == 0 {
+            return Ok(items);
+        }
+        let node = line as usize;
+        items.push(cells.word(node, 0))?;
+        line = cells.word(node, 1);
+    }
+    Ok(items)
+}
