@@ -1,0 +1,14 @@
+pub mod Entries
+pub mod Rooms
+pub mod Beginnings
+pub mod Knows
+pub mod World
+pub mod Dead
+pub mod Facts
+pub mod Lawful
+pub mod Views
+pub mod Conditions
+pub mod Steps
+pub mod Laws
+pub mod Opens
+pub mod Lives
