@@ -1,5 +1,5 @@
 -- A life: how it begins, and when a history with its marks is a legal one for it.
-use Rattle.std.specs.Prelude.{◌≡◌, ◌≢◌, ℕ, ◌+◌, ◌-◌, ◌<◌, ◌≤◌, ◌⊎◌, List, [], ◌∷◌, length, take, drop, Option, Some, None, slice_get, slice_index, slice_index_or}
+use Rattle.std.specs.Prelude.{◌≡◌, ◌≢◌, ℕ, suc, ◌+◌, ◌-◌, ◌<◌, ◌≤◌, ◌⊎◌, List, [], ◌∷◌, length, map, take, drop, Option, Some, None, slice_get, slice_index, slice_index_or}
 use Rattle.seq_object.specs.declared.settings.Settings.{Settings}
 use Rattle.seq_object.specs.declared.command.Command.{Command}
 use Rattle.seq_object.specs.declared.command.Command.TheVariants.{Put, Get, Del, Enq, Deq, Take}
@@ -7,6 +7,7 @@ use Rattle.seq_object.specs.declared.history.Entry.{Entry}
 use Rattle.seq_object.specs.Sizes.{Sizes, sizes_of}
 use Rattle.seq_object.specs.History.{State, of_thread, IsLegal, first_state, AreCommands}
 use Rattle.life_model.specs.declared.life.Life.{Life}
+use Rattle.life_model.specs.declared.life.Mark.{Mark}
 use Rattle.life_model.specs.declared.life.Life.TheVariants.{Start, Resume}
 
 -- how a life begins: its script's settings and each thread's commands, whether it resumes, and the memory's epoch and state
@@ -45,6 +46,15 @@ last_mark low (m ∷ ms) = last_mark m ms
 -- how many entries the last acknowledged epoch write saved
 abbrev pub saved : List ℕ → ℕ
 saved marks = last_mark 0 marks
+
+-- how many entries each mark saves
+abbrev pub lengths : List Mark → List ℕ
+lengths marks = map (λ m. m.length) marks
+
+-- these marks, the first of them of this epoch and each later one of the next
+abbrev pub marks_from : ℕ → List ℕ → List Mark
+marks_from epoch [] = []
+marks_from epoch (n ∷ ns) = record { epoch = epoch; length = n } ∷ marks_from (suc epoch) ns
 
 -- from low on these marks never fall, and they end at most at high
 abbrev pub AreRising : ℕ → List ℕ → ℕ → Type 0

@@ -1,8 +1,5 @@
-pub mod Finding
-pub mod Stored
-pub mod MapFacts
-pub mod Reserving
-pub mod FormatFacts
-pub mod Playing
+pub mod Naming
+pub mod Scripts
+pub mod Lives
+pub mod Saves
 pub mod Answering
-pub mod Carrying

@@ -1,14 +1,23 @@
--- What the steps of a start tell: reading the script, and writing the report.
-use Rattle.std.specs.Prelude.{◌≡◌, ℕ, ◌≤◌, ◌<◌, Option, List, length, Result, Ok, Err}
+-- What the steps of a start tell: reading the script, leading its life, saving the image, and writing the report.
+use Rattle.std.specs.Prelude.{◌≡◌, ◌≢◌, ℕ, ◌+◌, ◌*◌, ◌≤◌, ◌<◌, Option, List, length, Result, Ok, Err}
 use Rattle.byte_ports.specs.Bytes.{Gave, Appended, AppendedSome}
 use Rattle.byte_ports.specs.Causes.{Rose}
+use Rattle.byte_ports.specs.Images.{Named, SetsName, OthersSame}
+use Rattle.seq_object.specs.declared.settings.Settings.{Settings}
+use Rattle.seq_object.specs.declared.command.Command.{Command}
 use Rattle.script_text.specs.declared.script.Script.{Script}
 use Rattle.script_text.specs.Faults.{fault}
 use Rattle.script_text.specs.Program.{Program, program_of}
 use Rattle.script_text.specs.Text.{text_of}
 use Rattle.script_text.specs.Built.{IsBuiltText, IsNotBuilt}
+use Rattle.line_memory.specs.Line.{BankState}
+use Rattle.life_model.specs.declared.life.Outcome.{Outcome}
+use Rattle.life_model.specs.declared.life.Outcome.TheVariants as ends
+use Rattle.script_text.specs.ReportText.{ReportState}
 use Rattle.respct.specs.declared.status.Status.{Status}
 use Rattle.respct.specs.declared.status.Status.TheVariants as statuses
+use Rattle.solo_life.specs.Life.{opening_with}
+use Rattle.respct.specs.Run.{HasLived, IsStartReport}
 use Rattle.respct.specs.Answers.{IsNoScript, TookTooMuch, script_limit, IsUnlessStarved}
 
 -- what is read is the script of all the source's bytes, or the cause is told why there is none
@@ -42,16 +51,42 @@ pub record IsReadDecided (bytes : List ℕ) (result : Result Script Status) : Ty
   pub refused : length bytes ≤ script_limit → IsNotBuilt bytes → IsRefusedUnlessStarved (statuses.Script (fault 0 0)) result
   pub too_long : script_limit < length bytes → IsRefusedUnlessStarved statuses.TooLong result
 
--- what writing a text tells: it is appended, or the cause is told why only a part of it was
-abbrev pub Writes : Option (List ℕ) → Option (List ℕ) → ℕ → ℕ → List ℕ → Status → Type 0
-Writes old new before now text statuses.Finished = Appended old new text
-Writes old new before now text statuses.WriteFault = Rose before now × AppendedSome old new text
-Writes old new before now text statuses.OutOfMemory = Unit {0}
-Writes old new before now text (statuses.Script f) = ⊥
-Writes old new before now text statuses.Usage = ⊥
-Writes old new before now text statuses.Stalled = ⊥
-Writes old new before now text statuses.Cut = ⊥
-Writes old new before now text statuses.ReadFault = ⊥
-Writes old new before now text statuses.StoreFault = ⊥
-Writes old new before now text statuses.NoImage = ⊥
-Writes old new before now text statuses.TooLong = ⊥
+-- what writing the report of a life that ended so tells: it is appended, or the cause is told why only a part of it was
+abbrev pub Writes : Option (List ℕ) → Option (List ℕ) → ℕ → ℕ → List ℕ → Outcome → Status → Type 0
+Writes old new before now text outcome statuses.Finished = (outcome ≡ ends.Finished) × Appended old new text
+Writes old new before now text outcome statuses.Stalled = (outcome ≡ ends.Stalled) × Appended old new text
+Writes old new before now text outcome statuses.Cut = (outcome ≡ ends.Cut) × Appended old new text
+Writes old new before now text outcome statuses.WriteFault = Rose before now × AppendedSome old new text
+Writes old new before now text outcome statuses.OutOfMemory = Unit {0}
+Writes old new before now text outcome (statuses.Script f) = ⊥
+Writes old new before now text outcome statuses.Usage = ⊥
+Writes old new before now text outcome statuses.ReadFault = ⊥
+Writes old new before now text outcome statuses.StoreFault = ⊥
+Writes old new before now text outcome statuses.NoImage = ⊥
+Writes old new before now text outcome statuses.TooLong = ⊥
+
+-- the outcome of a life of so many commands that had so many turns: it is not stalled, and with turns enough it is not cut
+pub record IsOutcomeIn (commands turns : ℕ) (outcome : Outcome) : Type 0 where
+  pub not_stalled : outcome ≢ ends.Stalled
+  pub enough : 128 * (commands + 1) ≤ turns → outcome ≢ ends.Cut
+
+-- a report is of a start of this thread with so many turns, and tells of its life and of the memory that it left
+pub record IsReportOf (settings : Settings) (commands : List Command) (turns : ℕ) (r : ReportState) (memory : List BankState) : Type 0 where
+  pub started : IsStartReport r
+  pub lived : HasLived (opening_with settings commands) r memory
+  pub outcome : IsOutcomeIn (length commands) turns r.outcome
+
+-- what saving the image of a memory tells: it is kept under the name, or the cause is told why not; no other name has changed
+abbrev pub Saves : Option Named → Option Named → ℕ → ℕ → List ℕ → List ℕ → Result Unit Status → Type 0
+Saves old new before now name bytes (Ok done) = SetsName old new name bytes
+Saves old new before now name bytes (Err statuses.StoreFault) = Rose before now × OthersSame old new name
+Saves old new before now name bytes (Err statuses.OutOfMemory) = OthersSame old new name
+Saves old new before now name bytes (Err statuses.Finished) = ⊥
+Saves old new before now name bytes (Err statuses.Usage) = ⊥
+Saves old new before now name bytes (Err (statuses.Script f)) = ⊥
+Saves old new before now name bytes (Err statuses.Stalled) = ⊥
+Saves old new before now name bytes (Err statuses.Cut) = ⊥
+Saves old new before now name bytes (Err statuses.ReadFault) = ⊥
+Saves old new before now name bytes (Err statuses.WriteFault) = ⊥
+Saves old new before now name bytes (Err statuses.NoImage) = ⊥
+Saves old new before now name bytes (Err statuses.TooLong) = ⊥

@@ -1,12 +1,9 @@
-//! respct: carries out a script of map commands on simulated persistent memory, and reports what was done.
+//! respct: carries out a script of map and queue commands on simulated persistent memory, and reports what was done.
 #![tactic(auto)]
 
 mod answer;
-mod carry;
-mod find;
-mod format;
-mod loads;
-mod map;
+mod living;
+mod saving;
 mod start;
 mod status;
 #[cfg(test)]
@@ -14,7 +11,7 @@ mod tests;
 mod top;
 mod words;
 
-use byte_ports::{StdinSource, StdoutSink, SureImages};
+use byte_ports::{FileImages, StdinSource, StdoutSink};
 use line_memory::Memory;
 use status::Status;
 use std::env;
@@ -24,7 +21,7 @@ use std::process::ExitCode;
 fn main(rt: HostRuntime) -> ExitCode {
     let mut source = StdinSource::new(rt.reader());
     let mut sink = StdoutSink::new(&rt);
-    let mut images = SureImages::new(rt.alloc());
+    let mut images = FileImages::new(rt);
     let mut memory = Memory::empty(rt.alloc());
     let status = match words_of(&rt) {
         Ok(words) => top::respct(

@@ -1,43 +1,53 @@
-//! A start: reads the script, carries it out on formatted memory, and writes the report.
+//! A start: reads the script, leads its life over formatted memory, saves the image, and writes the report.
 
-ghost use Rattle.std.specs.Prelude.{◌≡◌, ℕ, [], List, Some};
+ghost use Rattle.std.specs.Prelude.{◌≡◌, ℕ, [], List, Some, IsTrue};
 ghost use Rattle.byte_ports.specs.Causes.{Rose};
-ghost use Rattle.script_text.specs.ReportText.{report_bytes};
-ghost use Rattle.respct.specs.Run.{finished_report};
+ghost use Rattle.script_text.specs.ReportText.{report_of, report_bytes, IsMarked};
+ghost use Rattle.respct.specs.Status.{status_of_end};
 ghost use Rattle.respct.specs.Answers.{outside, StartTells, IsComplete, IsUnlessStarved};
 ghost use Rattle.respct.specs.Steps.{Reads, IsReadDecided, Writes};
-ghost use Rattle.respct.specs.declared.status.Status.TheVariants.{Finished as AllUsed};
 
-use crate::carry::carry_out;
+use crate::living::{live, turns_in};
+use crate::saving::save;
 use crate::status::Status;
-use byte_ports::{ReadRefusal, Sink, Source, StoreRefusal, read_all, write_all};
-use life_model::Outcome;
+use byte_ports::{Images, ReadRefusal, Sink, Source, StoreRefusal, read_all, write_all};
 use line_memory::Memory;
 use script_text::{Report, Script, ScriptRefusal, parse, report_text};
-use seq_object::Entry;
 use std::alloc::Global;
 
 /// The greatest number of bytes that a script may have.
 const SCRIPT_LIMIT: u64 = 8_388_608;
 
-/// Reads the script, formats the memory, carries the script out, and writes the report.
-pub fn start<S: Source, W: Sink>(
+/// Reads the script, leads its life over formatted memory, saves the image under this name, and writes the report.
+pub fn start<S: Source, G: Images, W: Sink>(
     alloc: Global,
     source: &mut S,
+    images: &mut G,
+    name: &str,
     sink: &mut W,
     memory: &mut Memory,
 ) -> Status
     requires { memory.old ≡ [] }
-    ensures tells { StartTells (outside (S.left source.old) (S.count source.old) (W.held sink.old) (W.count sink.old)) (outside (S.left source.new) (S.count source.new) (W.held sink.new) (W.count sink.new)) memory.new result }
-    ensures complete { IsComplete (outside (S.left source.old) (S.count source.old) (W.held sink.old) (W.count sink.old)) (outside (S.left source.new) (S.count source.new) (W.held sink.new) (W.count sink.new)) result }
+    ensures tells { StartTells name.now (outside (S.left source.old) (S.count source.old) (W.held sink.old) (W.count sink.old) (G.kept images.old) (G.count images.old)) (outside (S.left source.new) (S.count source.new) (W.held sink.new) (W.count sink.new) (G.kept images.new) (G.count images.new)) memory.new result }
+    ensures complete { IsComplete (outside (S.left source.old) (S.count source.old) (W.held sink.old) (W.count sink.old) (G.kept images.old) (G.count images.old)) (outside (S.left source.new) (S.count source.new) (W.held sink.new) (W.count sink.new) (G.kept images.new) (G.count images.new)) result }
 {
-    let script = match read(alloc, source) {
+    let Script {
+        settings,
+        mode,
+        keep,
+        threads,
+    } = match read(alloc, source) {
         Ok(script) => script,
         Err(status) => return status,
     };
-    match carry_out(alloc, &script, memory) {
-        Ok(entries) => write(alloc, entries, sink),
-        Err(_) => Status::OutOfMemory,
+    let mut threads = threads;
+    let report = match live(alloc, settings, threads.remove(0), turns_in(&mode), memory) {
+        Ok(report) => report,
+        Err(_) => return Status::OutOfMemory,
+    };
+    match save(alloc, images, name, memory, &settings, &keep) {
+        Ok(()) => write(alloc, &report, sink),
+        Err(status) => status,
     }
 }
 
@@ -59,26 +69,18 @@ fn read<S: Source>(alloc: Global, source: &mut S) -> Result<Script, Status>
     }
 }
 
-/// Writes the report of a life that finished with these entries.
-fn write<W: Sink>(alloc: Global, entries: Vec<Entry>, sink: &mut W) -> Status
-    ensures tells { Writes (W.held sink.old) (W.held sink.new) (W.count sink.old) (W.count sink.new) (report_bytes (finished_report entries.items)) result }
-    ensures complete { (Rose (W.count sink.old) (W.count sink.new) → ⊥) → IsUnlessStarved AllUsed result }
+/// Writes the report of a life, and says how the life ended.
+fn write<W: Sink>(alloc: Global, report: &Report, sink: &mut W) -> Status
+    requires { IsMarked (report_of report.now) }
+    ensures tells { Writes (W.held sink.old) (W.held sink.new) (W.count sink.old) (W.count sink.new) (report_bytes (report_of report.now)) report.now.outcome result }
+    ensures complete { (Rose (W.count sink.old) (W.count sink.new) → ⊥) → IsUnlessStarved (status_of_end report.now.outcome) result }
 {
-    let report = Report {
-        resumed: false,
-        began: 1,
-        entries,
-        marks: Vec::new(alloc),
-        held: Vec::new(alloc),
-        flushed: 0,
-        outcome: Outcome::Finished,
-    };
-    let text = match report_text(alloc, &report) {
+    let text = match report_text(alloc, report) {
         Ok(text) => text,
         Err(_) => return Status::OutOfMemory,
     };
     match write_all(sink, text.as_slice()) {
-        Ok(()) => Status::Finished,
+        Ok(()) => Status::of_end(report.outcome),
         Err(StoreRefusal::Failed) => Status::WriteFault,
         Err(StoreRefusal::OutOfMemory) => Status::OutOfMemory,
     }

@@ -1,8 +1,9 @@
 //! How a call of the program ends, and the code and the text that tell it.
 
 ghost use Rattle.std.specs.Prelude.{◌≡◌};
-ghost use Rattle.respct.specs.Status.{code_of};
+ghost use Rattle.respct.specs.Status.{code_of, status_of_end};
 
+use life_model::Outcome;
 use script_text::{ScriptFault, kind_name};
 use std::fmt;
 
@@ -34,6 +35,18 @@ pub enum Status {
 }
 
 impl Status {
+    /// The status of a life that ended so.
+    pub fn of_end(outcome: Outcome) -> Status
+        ensures { result ≡ status_of_end outcome }
+    {
+        match outcome {
+            Outcome::Finished => Status::Finished,
+            Outcome::Stalled => Status::Stalled,
+            Outcome::Cut => Status::Cut,
+            Outcome::Starved => Status::OutOfMemory,
+        }
+    }
+
     /// The code with which the program exits, from 0 to 12. 5 and 6 are those of an image that is refused or does not fit.
     pub fn code(&self) -> u8
         ensures { result ≡ code_of self.now }

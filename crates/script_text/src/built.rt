@@ -2,9 +2,9 @@
 //! Which scripts have the form is one definition, `IsFormBuilt`, and one function, `is_form_built`.
 
 ghost use Rattle.std.specs.Prelude.{◌≡◌, ◌↔◌, map, IfOk, IsTrue, All};
-ghost use Rattle.script_text.specs.Program.{Program, program_of, turns_of, keeping_of};
+ghost use Rattle.script_text.specs.Program.{Program, program_of, turns_of};
 ghost use Rattle.script_text.specs.Faults.{Gives, fault};
-ghost use Rattle.script_text.specs.Built.{IsCommandBuilt, AreTurnsBuilt, IsKeepBuilt, IsOneThread, IsFormBuilt, IsBuiltText, IsNotBuilt};
+ghost use Rattle.script_text.specs.Built.{IsCommandBuilt, AreTurnsBuilt, IsOneThread, IsFormBuilt, IsBuiltText, IsNotBuilt};
 
 use crate::fault::{NOT_BUILT, ScriptFault, ScriptRefusal};
 use crate::mode::Mode;
@@ -12,9 +12,6 @@ use crate::script::Script;
 use crate::whole::read_script;
 use seq_object::Command;
 use std::alloc::Global;
-use store_order::Choice;
-
-const TURNS_OF_A_COMMAND: u32 = 128;
 
 /// The script of a text, where the script has the form that is built so far.
 ///
@@ -53,36 +50,24 @@ fn not_built() -> ScriptRefusal
 fn is_form_built(script: &Script) -> bool
     ensures { IsTrue result ↔ IsFormBuilt (program_of script.now) }
 {
-    script.settings.shards == 1
-        && is_keep_built(&script.keep)
-        && is_one_thread(&script.mode, &script.threads)
+    script.settings.shards == 1 && is_one_thread(&script.mode, &script.threads)
 }
 
-// Whether a cut keeps what it may.
-fn is_keep_built(keep: &Choice) -> bool
-    ensures { IsTrue result ↔ IsKeepBuilt (keeping_of keep.now) }
-{
-    matches!(keep, Choice::Nothing)
-}
-
-// Whether there is one thread, with commands that are built, and turns enough for them.
+// Whether there is one thread, with turns and commands that are built.
 fn is_one_thread(mode: &Mode, threads: &[Vec<Command>]) -> bool
     ensures { IsTrue result ↔ IsOneThread (turns_of mode.now) (map (λ commands. commands.items) threads.now) }
 {
     match threads {
-        [commands] => are_turns_built(mode, commands.len()) && are_commands_built(commands),
+        [commands] => are_turns_built(mode) && are_commands_built(commands),
         _ => false,
     }
 }
 
-// Whether the turns go round, and are enough for so many commands.
-fn are_turns_built(mode: &Mode, commands: usize) -> bool
-    ensures { IsTrue result ↔ AreTurnsBuilt commands (turns_of mode.now) }
+// Whether the turns go round.
+fn are_turns_built(mode: &Mode) -> bool
+    ensures { IsTrue result ↔ AreTurnsBuilt (turns_of mode.now) }
 {
-    match mode {
-        Mode::RoundRobin(turns) => commands < (*turns / TURNS_OF_A_COMMAND) as usize,
-        _ => false,
-    }
+    matches!(mode, Mode::RoundRobin(_))
 }
 
 // Whether all commands are built.
@@ -92,9 +77,12 @@ fn are_commands_built(commands: &[Command]) -> bool
     commands.iter().all(|command| is_command_built(*command))
 }
 
-// Whether a command is built.
+// Whether a command is built: each but `take`.
 fn is_command_built(command: Command) -> bool
     ensures { IsTrue result ↔ IsCommandBuilt command }
 {
-    matches!(command, Command::Put(..) | Command::Get(_))
+    matches!(
+        command,
+        Command::Put(..) | Command::Get(_) | Command::Del(_) | Command::Enq(_) | Command::Deq
+    )
 }

@@ -6,6 +6,7 @@ use crate::laws::one_program;
 use crate::printing::print;
 use crate::report::Report;
 use crate::reporting::report_text;
+use crate::script::Script;
 use crate::stating::state_text;
 use crate::whole::read_script;
 use life_model::{Mark, Outcome};
@@ -16,24 +17,33 @@ use std::test::Fail;
 const BASE: &str =
     "respct 1\nthreads 2\nshards 1\nlines 16\nevery 1\nturns rr 5\nkeep none\nthread 0\nput 1 2\ndeq\nthread 1\nget 7\nend\n";
 
+// A text of the form that is built.
+const BUILT: &str =
+    "respct 1\nthreads 1\nshards 1\nlines 16\nevery 1\nturns rr 384\nkeep none\nthread 0\nput 5 7\nget 5\nend\n";
+
 // A line and a kind, which tests compare.
 type Place = (u32, u32);
 
 const NO_FAULT: Place = (0, 99);
 
-// The first fault of a text, where it has one.
-fn fault_of(alloc: Global, text: &str) -> Result<Place, Fail> {
-    match read_script(alloc, text.as_bytes()) {
-        Ok(_) => Ok(NO_FAULT),
-        Err(ScriptRefusal::Fault(ScriptFault { line, kind })) => Ok((line, kind)),
-        Err(ScriptRefusal::OutOfMemory) => Ok((99, 99)),
+// The fault that a reader gives, where it gives one.
+fn place_of(read: Result<Script, ScriptRefusal>) -> Place {
+    match read {
+        Ok(_) => NO_FAULT,
+        Err(ScriptRefusal::Fault(ScriptFault { line, kind })) => (line, kind),
+        Err(ScriptRefusal::OutOfMemory) => (99, 99),
     }
 }
 
-// The base text, where one line of it is another one.
-fn text_with(alloc: Global, number: usize, with: &str) -> Result<String, Fail> {
+// The first fault of a text, where it has one.
+fn fault_of(alloc: Global, text: &str) -> Result<Place, Fail> {
+    Ok(place_of(read_script(alloc, text.as_bytes())))
+}
+
+// A text, where one line of it is another one.
+fn text_with(alloc: Global, base: &str, number: usize, with: &str) -> Result<String, Fail> {
     let mut text = String::new(alloc);
-    for (index, line) in BASE.lines().enumerate() {
+    for (index, line) in base.lines().enumerate() {
         if index + 1 == number {
             text.push_str(with)?;
         } else {
@@ -46,7 +56,7 @@ fn text_with(alloc: Global, number: usize, with: &str) -> Result<String, Fail> {
 
 // The fault of the base text, where one line of it is another one.
 fn fault_with(alloc: Global, number: usize, with: &str) -> Result<Place, Fail> {
-    let text = text_with(alloc, number, with)?;
+    let text = text_with(alloc, BASE, number, with)?;
     fault_of(alloc, text.as_str())
 }
 
@@ -176,31 +186,37 @@ fn prints_what_it_read(rt: HostRuntime) -> Result<(), Fail> {
     Ok(())
 }
 
-// Each row: the lines of threads, turns and what is kept, and whether the script has the form that is built.
+// Each row: the number of a line of a text of the form that is built, another line in its place, and the fault.
 #[test]
 fn form_that_is_built(rt: HostRuntime) -> Result<(), Fail> {
     let alloc = rt.alloc();
-    let rows: [(&str, &str, &str, bool); 6] = [
-        ("threads 1", "turns rr 384", "get 5", true),
-        ("threads 2", "turns rr 384", "get 5", false),
-        ("threads 1", "turns rr 383", "get 5", false),
-        ("threads 1", "turns seed 1 384", "get 5", false),
-        ("threads 1", "turns rr 384", "deq", false),
-        ("threads 1", "turns rr 384", "get 05", false),
+    let rows: [(usize, &str, Place); 20] = [
+        (4, "lines 65536", NO_FAULT),
+        (5, "every 1024", NO_FAULT),
+        (6, "turns rr 384", NO_FAULT),
+        (6, "turns rr 0", NO_FAULT),
+        (6, "turns rr 10000000", NO_FAULT),
+        (7, "keep all", NO_FAULT),
+        (10, "del 5", NO_FAULT),
+        (10, "enq 5", NO_FAULT),
+        (10, "deq", NO_FAULT),
+        (9, "enq 5\ndel 5\ndeq", NO_FAULT),
+        (3, "shards 2", (0, 0)),
+        (6, "turns seed 1 384", (0, 0)),
+        (6, "turns list 0 0", (0, 0)),
+        (6, "live 384", (0, 0)),
+        (7, "keep seed 1", NO_FAULT),
+        (7, "keep list 0:1", NO_FAULT),
+        (9, "take", (0, 0)),
+        (10, "take", (0, 0)),
+        (6, "turns rr 10000001", (0, 0)),
+        (10, "get 05", (0, 0)),
     ];
-    for (threads, turns, last, built) in rows {
-        let text = format!(in alloc;
-            "respct 1\n{threads}\nshards 1\nlines 16\nevery 1\n{turns}\nkeep none\nthread 0\nput 5 7\n{last}\nend\n"
-        )?;
-        match parse(alloc, text.as_bytes()) {
-            Ok(_) => assert!(rt; built, "{text}"),
-            Err(ScriptRefusal::Fault(fault)) => {
-                assert!(rt; !built, "{text}");
-                assert_eq!(rt; (fault.line, fault.kind), (0, 0));
-            }
-            Err(ScriptRefusal::OutOfMemory) => assert!(rt; false),
-        }
+    for (number, with, fault) in rows {
+        let text = text_with(alloc, BUILT, number, with)?;
+        assert_eq!(rt; place_of(parse(alloc, text.as_bytes())), fault, "{with}");
     }
+    assert_eq!(rt; place_of(parse(alloc, BASE.as_bytes())), (0, 0));
     Ok(())
 }
 

@@ -1,0 +1,17 @@
+pub mod Shutting
+pub mod Own
+pub mod EpochWrites
+pub mod Uses
+pub mod Alone
+pub mod Safe
+pub mod Present
+pub mod Commands
+pub mod Begins
+pub mod Entering
+pub mod DoneSoFar
+pub mod Ends
+pub mod Work
+pub mod Closings
+pub mod FormatFacts
+pub mod Start
+pub mod Passing

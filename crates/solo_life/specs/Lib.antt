@@ -1,0 +1,5 @@
+pub mod Formatted
+pub mod Phases
+pub mod Rooms
+pub mod Life
+pub mod Laws
