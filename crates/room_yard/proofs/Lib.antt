@@ -1,0 +1,4 @@
+pub mod Returned
+pub mod Told
+pub mod Words
+pub mod Looks

@@ -1,0 +1,5 @@
+pub mod Told
+pub mod Calls
+pub mod Answers
+pub mod Untouched
+pub mod Laws

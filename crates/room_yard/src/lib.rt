@@ -1,0 +1,29 @@
+//! A thread's handle on a yard of rooms under locks: the trait `Post`, and what each of its answers tells.
+//!
+//! The crate keeps no state yet. It has the trait, the structs of its answers, laws, and definitions in specs/:
+//!
+//! - `Told`: what a handle tells beside its thread's view: the whole yard's state, or the thread's own checkpoints.
+//! - `Calls`: what a call asks of its caller, where that is less than its step's condition, and when a word found forbids the step.
+//! - `Answers`: one record for each answer of each call, over the view and the state that is told, before the call and behind it. A step's
+//!   answer has the view, and the world where it is told, by the functions of the yard's steps.
+//! - `Laws`, `Untouched`: the statements of the laws.
+//!
+//! A contract over any handle sees the view, and no more than that need be told. What an answer says of the whole yard vanishes by
+//! computation where a handle does not tell it.
+//!
+//! Proved here: in each lawful state each call has an answer behind which the state is lawful, so each contract of the trait can be
+//! met there (`laws`). Who rests or finds a lock taken looked. Over any handle, a lock and an unlock in a row leave the view as it was, so
+//! what `lock` gives meets what `unlock` asks (`touch`). That code keeps these contracts is proved only where a yard stands, and none does
+//! yet. Nothing is tested, since nothing runs.
+#![tactic(auto)]
+
+mod answers;
+pub mod laws;
+mod post;
+mod untouched;
+
+pub use answers::{Held, HoldsLock, Rest};
+pub use life_model::Mark;
+pub use post::Post;
+pub use untouched::{returns_untouched_law, touch};
+pub use yard_model::{Phase, Room};
