@@ -8,6 +8,7 @@ use script_text::ScriptFault;
 use std::alloc::{AllocError, Global};
 use std::test::Fail;
 use std::{env, fs};
+use store_order::may_be_left;
 
 /// A whole script of two threads.
 const TWO_THREADS: &str =
@@ -312,6 +313,40 @@ fn images_of_one_put(rt: HostRuntime) -> Result<(), Fail> {
             words,
             "line {line} after {turns} turns"
         );
+    }
+    Ok(())
+}
+
+/// Of a put that is cut behind four stores to the header: what these may leave, and what they may not.
+#[test]
+fn lines_that_a_cut_may_leave(rt: HostRuntime) -> Result<(), Fail> {
+    let script = Script {
+        turns: 6,
+        ..ONE_PUT
+    };
+    let words = words_in(rt.alloc(), "start")?;
+    let mut source = MemorySource::new(script.text(rt.alloc())?, Vec::new(rt.alloc()));
+    let mut images = MemoryImages::new(rt.alloc(), Vec::new(rt.alloc()));
+    let mut sink = MemorySink::new(rt.alloc(), Vec::new(rt.alloc()));
+    let mut memory = Memory::empty(rt.alloc());
+    let status = respct(
+        &rt,
+        &words,
+        &mut source,
+        &mut images,
+        &mut sink,
+        &mut memory,
+    );
+    assert_eq!(rt; status, Status::Cut);
+    assert_eq!(rt; memory.rooms(), 4);
+    for (header, may) in [
+        ([0, 9, 0, 0, 9, 0, 1, 0], true),
+        ([0, 9, 0, 0, 9, 0, 0, 0], true),
+        ([0, 10, 0, 0, 9, 0, 1, 0], false),
+    ] {
+        let mut lines = [[0u64; 8]; 16];
+        lines[0] = header;
+        assert_eq!(rt; may_be_left(memory.bank(0), &lines), may);
     }
     Ok(())
 }
