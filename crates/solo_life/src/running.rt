@@ -2,7 +2,7 @@
 
 ghost use Rattle.std.specs.Prelude.{◌≡◌, OnOk, OnErr, IfOk};
 ghost use Rattle.solo_life.specs.declared.phase.Phase.TheVariants as phases;
-ghost use Rattle.solo_life.specs.Phases.{room_named};
+ghost use Rattle.solo_life.specs.Phases.{room_named, held_in};
 ghost use Rattle.solo_life.specs.Life.{IsSolo, Follows, IsGivenUp, MayBegin, IsDueNow, IsBegun, IsResting, under_of};
 
 use crate::life::SoloLife;
@@ -115,6 +115,7 @@ fn lock_own(life: &mut SoloLife)
 pub fn command(life: &mut SoloLife, under: UnderWay)
     requires solo { IsSolo life.old }
     requires phase { life.old.phase ≡ phases.Commanding under }
+    ensures held { held_in life.new.phase ≡ held_in life.old.phase }
     ensures follows { Follows life.old life.new }
     ensures solo { IsSolo life.new }
 {
@@ -129,6 +130,7 @@ fn command_in_map(life: &mut SoloLife, under: UnderWay)
     requires solo { IsSolo life.old }
     requires phase { life.old.phase ≡ phases.Commanding under }
     requires room { room_named under.command ≡ WorkRoom.Map }
+    ensures held { held_in life.new.phase ≡ held_in life.old.phase }
     ensures follows { Follows life.old life.new }
     ensures solo { IsSolo life.new }
 {
@@ -148,6 +150,7 @@ fn command_in_queue(life: &mut SoloLife, under: UnderWay)
     requires solo { IsSolo life.old }
     requires phase { life.old.phase ≡ phases.Commanding under }
     requires room { room_named under.command ≡ WorkRoom.Queue }
+    ensures held { held_in life.new.phase ≡ held_in life.old.phase }
     ensures follows { Follows life.old life.new }
     ensures solo { IsSolo life.new }
 {
