@@ -1,8 +1,8 @@
 -- Bytes taken from a source, and bytes appended to a sink, step by step.
-use Rattle.std.proofs.Common.{◌≡◌, ℕ, ◌+◌, ◌-◌, ◌<◌, ◌++◌, List, Option, Some, None, take, drop, length, arith, sym, ◌∙◌, ap, append_assoc, length-append}
+use Rattle.std.proofs.Common.{◌≡◌, ℕ, ◌+◌, ◌-◌, ◌++◌, List, Option, Some, None, take, drop, length, arith, sym, ◌∙◌, ap, append_assoc}
 use Rattle.std.proofs.Math.Seq.{take-add}
 use Rattle.std.proofs.lemmas.List.{take_all, length-drop}
-use Rattle.byte_ports.specs.Bytes.{TookSoFar, ExactlyPast, Appended}
+use Rattle.byte_ports.specs.Bytes.{TookSoFar, Appended}
 
 -- more bytes were taken
 pub took_more : (old mid new : Option (List ℕ)) (first second : List ℕ) → TookSoFar old mid first → TookSoFar mid new second → TookSoFar old new (first ++ second)
@@ -21,15 +21,3 @@ appended_more (Some old) (Some mid) (Some new) first second a b = b ∙ ap (λ (
 -- the first of what is left, behind what is done
 pub take_further : (xs : List ℕ) (done n : ℕ) → take (done + n) xs ≡ take done xs ++ take n (take (length xs - done) (drop done xs))
 take_further xs done n = take-add done n xs ∙ ap (λ (ys : List ℕ). take done xs ++ take n ys) (sym (take_all (length xs - done) (drop done xs) (omega (arith, length-drop done xs))))
-
--- the bytes taken are as many as fewer are left
-taken_length : (old new bytes : List ℕ) → old ≡ bytes ++ new → length old ≡ length bytes + length new
-taken_length old new bytes e = ap length e ∙ length-append bytes new
-
--- what is so exactly where these bytes are past the limit is so exactly where the bytes that were taken are
-pub past_by_bytes : (limit : ℕ) (old new : Option (List ℕ)) (bytes : List ℕ) (P : Type 0) → TookSoFar old new bytes → (P → limit < length bytes) → (limit < length bytes → P) → ExactlyPast limit old new P
-past_by_bytes limit None new bytes P t to from = tt
-past_by_bytes limit (Some old) None bytes P t to from = absurd t
-past_by_bytes limit (Some old) (Some new) bytes P t to from =
-    let long : length old ≡ length bytes + length new = taken_length old new bytes t in
-    (λ p. let h : limit < length bytes = to p in omega arith, λ past. from (omega arith))

@@ -11,6 +11,12 @@ Leaves (Some left) bytes = left ≡ bytes
 abbrev pub IsAtEnd : Option (List ℕ) → Type 0
 IsAtEnd told = Leaves told []
 
+-- what is told is as it was
+abbrev pub Keeps : Option (List ℕ) → Option (List ℕ) → Type 0
+Keeps None new = Unit {0}
+Keeps (Some old) None = ⊥
+Keeps (Some old) (Some new) = new ≡ old
+
 -- exactly these bytes were taken from the front of those left
 abbrev pub TookSoFar : Option (List ℕ) → Option (List ℕ) → List ℕ → Type 0
 TookSoFar None new bytes = Unit {0}

@@ -23,10 +23,6 @@ Finds (Some map) name answer = get map name ≡ answer
 abbrev pub HeldUnder : Option Named → List ℕ → List ℕ → Type 0
 HeldUnder told name bytes = Finds told name (Some bytes)
 
--- nothing is kept under this name
-abbrev pub HoldsNothing : Option Named → List ℕ → Type 0
-HoldsNothing told name = Finds told name None
-
 -- the name has these bytes now, and nothing else has changed
 abbrev pub SetsName : Option Named → Option Named → List ℕ → List ℕ → Type 0
 SetsName None new name bytes = Unit {0}

@@ -21,6 +21,7 @@ impl Model for FailList {
 }
 
 impl FailList {
+    /// The calls that these numbers say fail, and none made.
     pub(crate) fn new(fails: Vec<u64>) -> FailList
         ensures { result ≡ no_calls fails.items }
     {

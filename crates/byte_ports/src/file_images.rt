@@ -1,21 +1,21 @@
-//! Files as an image store: a name is a path. It tells no images, and counts each error.
+//! Files as an image store: a name is a path. It tells no images, and counts each error. What a load makes of an opened file, and what a
+//! save puts into a made one, are calls of their own over a reader and a writer, which may tell their bytes.
 
-ghost use Rattle.std.specs.Prelude.{◌≡◌, ℕ, ◌+◌, ◌-◌, ◌<◌, ◌≤◌, length, take, vec_len, None, Option, IfOk, IfSome, OnOk, OnErr, IsErrOf, option_map};
+ghost use Rattle.std.specs.Prelude.{◌≡◌, ℕ, ◌≤◌, take, vec_len, None, Option, IfOk, IfSome, OnOk, OnErr, IsErrOf, option_map};
 ghost use Rattle.byte_ports.specs.Causes.{raised, Rose};
+ghost use Rattle.byte_ports.specs.Bytes.{Appended};
 ghost use Rattle.byte_ports.specs.Images.{Finds, SetsName, OthersSame};
 
 use crate::images::Images;
-use crate::refusal::StoreRefusal;
+use crate::reader_source::ReaderSource;
+use crate::refusal::{ReadRefusal, StoreRefusal};
+use crate::source::read_all;
 use std::alloc::Global;
-use std::fs;
 use std::fs::{File, Files};
-use std::io::{ErrorKind, Read};
+use std::io::{ErrorKind, Read, Write};
 
 /// How many bytes of a file are loaded at most. Each image that may be resumed is shorter, so a longer file is no image either way.
-const MOST: usize = 40_000_000;
-
-/// How many bytes are asked for at a time.
-const CHUNK: usize = 65_536;
+const MOST: u64 = 40_000_000;
 
 /// The files of a runtime. A contract sees how many calls failed.
 #[derive(Drop)]
@@ -32,6 +32,16 @@ impl<R: Files + Drop> FileImages<R> {
     {
         FileImages { rt, faults: 0 }
     }
+
+    /// Counts one more call that has failed.
+    fn fail(&mut self) -> StoreRefusal
+        ensures failed { result ≡ StoreRefusal.Failed }
+        ensures counted { self.new.faults ≡ raised self.old.faults }
+        ensures later { self.old.faults ≤ self.new.faults }
+    {
+        self.faults = self.faults.saturating_add(1);
+        StoreRefusal::Failed
+    }
 }
 
 impl<R: Files + Drop> Images for FileImages<R> {
@@ -46,6 +56,7 @@ impl<R: Files + Drop> Images for FileImages<R> {
     /// None comes where the system says that no such file exists, and a fault at every other error. Of a file of more than 40,000,000
     /// bytes the first 40,000,000 are given.
     fn load(&mut self, alloc: Global, name: &str) -> Result<Option<Vec<u8>>, StoreRefusal>
+        ensures bound { IfOk result (λ found. IfSome found (λ bytes. vec_len bytes ≤ 40000000)) }
         ensures fine { OnOk result (self.new.faults ≡ self.old.faults) }
         ensures counted { IsErrOf result StoreRefusal.Failed → self.new.faults ≡ raised self.old.faults }
         ensures starved { IsErrOf result StoreRefusal.OutOfMemory → self.new.faults ≡ self.old.faults }
@@ -54,13 +65,14 @@ impl<R: Files + Drop> Images for FileImages<R> {
         ensures later { self.old.faults ≤ self.new.faults }
         ensures failed { IsErrOf result StoreRefusal.Failed → Rose self.old.faults self.new.faults }
     {
-        match load_file(&self.rt, alloc, name) {
-            Ok(found) => Ok(found),
-            Err(StoreRefusal::OutOfMemory) => Err(StoreRefusal::OutOfMemory),
-            Err(StoreRefusal::Failed) => {
-                self.faults = self.faults.saturating_add(1);
-                Err(StoreRefusal::Failed)
-            }
+        match File::open(&self.rt, name) {
+            Ok(file) => match read_front(alloc, file, MOST) {
+                Ok(bytes) => Ok(Some(bytes)),
+                Err(StoreRefusal::OutOfMemory) => Err(StoreRefusal::OutOfMemory),
+                Err(StoreRefusal::Failed) => Err(self.fail()),
+            },
+            Err(error) if error.kind() == ErrorKind::NotFound => Ok(None),
+            Err(_) => Err(self.fail()),
         }
     }
 
@@ -75,58 +87,41 @@ impl<R: Files + Drop> Images for FileImages<R> {
         ensures later { self.old.faults ≤ self.new.faults }
         ensures failed { IsErrOf result StoreRefusal.Failed → Rose self.old.faults self.new.faults }
     {
-        match fs::write(&self.rt, name, bytes) {
-            Ok(()) => Ok(()),
-            Err(_) => {
-                self.faults = self.faults.saturating_add(1);
-                Err(StoreRefusal::Failed)
-            }
+        match File::create(&self.rt, name) {
+            Ok(mut file) => match write_whole(&mut file, bytes) {
+                Ok(()) => Ok(()),
+                Err(_) => Err(self.fail()),
+            },
+            Err(_) => Err(self.fail()),
         }
     }
 }
 
-/// The first bytes of a file, or None where there is none.
-fn load_file<R: Files>(rt: &R, alloc: Global, name: &str) -> Result<Option<Vec<u8>>, StoreRefusal>
-    ensures { IfOk result (λ found. IfSome found (λ bytes. vec_len bytes ≤ MOST)) }
+/// What a load gives of an opened file: the first `most` bytes that a reader has left, or all of them where there are fewer.
+pub fn read_front<R: Read + Drop>(
+    alloc: Global,
+    reader: R,
+    most: u64,
+) -> Result<Vec<u8>, StoreRefusal>
+    ensures bound { IfOk result (λ bytes. vec_len bytes ≤ most) }
+    ensures front { IfOk result (λ bytes. IfSome (R.remaining reader) (λ left. bytes.items ≡ take most left)) }
 {
-    match File::open(rt, name) {
-        Ok(mut file) => match vec![in alloc; 0u8; CHUNK] {
-            Ok(mut chunk) => match read_front(alloc, &mut file, MOST, chunk.as_mut_slice()) {
-                Ok(bytes) => Ok(Some(bytes)),
-                Err(refusal) => Err(refusal),
-            },
-            Err(_) => Err(StoreRefusal::OutOfMemory),
-        },
-        Err(error) if error.kind() == ErrorKind::NotFound => Ok(None),
+    let mut source = ReaderSource::new(reader.take(most));
+    match read_all(alloc, &mut source, most) {
+        Ok(bytes) => Ok(bytes),
+        Err(ReadRefusal::OutOfMemory) => Err(StoreRefusal::OutOfMemory),
+        // No more than `most` bytes are taken of the reader.
+        Err(ReadRefusal::Failed | ReadRefusal::TooLong) => Err(StoreRefusal::Failed),
+    }
+}
+
+/// What a save puts into a file that was made or emptied: all of the bytes.
+pub fn write_whole<W: Write>(writer: &mut W, bytes: &[u8]) -> Result<(), StoreRefusal>
+    ensures ok { OnOk result (Appended (W.contents writer.old) (W.contents writer.new) bytes.now) }
+    ensures only { OnErr result (IsErrOf result StoreRefusal.Failed) }
+{
+    match writer.write_all(bytes) {
+        Ok(()) => Ok(()),
         Err(_) => Err(StoreRefusal::Failed),
     }
-}
-
-/// The first `most` bytes that a reader has left, or all of them where there are fewer, by reads into this chunk.
-fn read_front<F: Read>(
-    alloc: Global,
-    file: &mut F,
-    most: usize,
-    chunk: &mut [u8],
-) -> Result<Vec<u8>, StoreRefusal>
-    requires { 0 < length chunk.old }
-    ensures bound { IfOk result (λ bytes. vec_len bytes ≤ most) }
-    ensures front { IfOk result (λ bytes. IfSome (F.remaining file.old) (λ left. bytes.items ≡ take most left)) }
-{
-    let mut bytes: Vec<u8> = Vec::new(alloc);
-    'front: while bytes.len() < most {
-        let wanted = chunk.len().min(most - bytes.len());
-        let part = &mut chunk[..wanted];
-        let n = match file.read(part) {
-            Ok(n) => n,
-            Err(_) => return Err(StoreRefusal::Failed),
-        };
-        if n == 0 {
-            return Ok(bytes);
-        }
-        if bytes.extend_from_slice(&part[..n]).is_err() {
-            return Err(StoreRefusal::OutOfMemory);
-        }
-    }
-    Ok(bytes)
 }

@@ -63,7 +63,7 @@ impl Sink for MemorySink {
         ensures bound { IfOk result (λ n. n ≤ length piece.now) }
         ensures some { IfOk result (λ n. 0 < length piece.now → 0 < n) }
         ensures appended { IfOk result (λ n. Appended (Some self.old.held) (Some self.new.held) (take n piece.now)) }
-        ensures same { OnErr result (Some self.new.held ≡ Some self.old.held) }
+        ensures same { OnErr result (self.new.held ≡ self.old.held) }
         ensures later { self.old.calls.faults ≤ self.new.calls.faults }
         ensures failed { IsErrOf result StoreRefusal.Failed → Rose self.old.calls.faults self.new.calls.faults }
     {

@@ -57,7 +57,7 @@ impl Source for MemorySource {
         ensures bound { IfOk result (λ n. n ≤ length buf.new) }
         ensures taken { IfOk result (λ n. TookSoFar (Some self.old.left) (Some self.new.left) (take n buf.new)) }
         ensures end { IfOk result (λ n. n ≡ 0 → 0 < length buf.new → self.old.left ≡ []) }
-        ensures same { OnErr result (Some self.new.left ≡ Some self.old.left) }
+        ensures same { OnErr result (self.new.left ≡ self.old.left) }
         ensures later { self.old.calls.faults ≤ self.new.calls.faults }
         ensures failed { OnErr result (Rose self.old.calls.faults self.new.calls.faults) }
     {

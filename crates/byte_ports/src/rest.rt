@@ -22,6 +22,7 @@ impl Model for Rest {
 }
 
 impl Rest {
+    /// All of these bytes are left.
     pub(crate) fn new(bytes: Vec<u8>) -> Rest
         ensures { result ≡ bytes.items }
     {

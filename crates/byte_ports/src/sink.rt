@@ -2,7 +2,7 @@
 
 ghost use Rattle.std.specs.Prelude.{◌≡◌, ℕ, ◌<◌, ◌≤◌, List, Option, length, take, IfOk, OnOk, OnErr, IsErrOf};
 ghost use Rattle.byte_ports.specs.Causes.{Rose};
-ghost use Rattle.byte_ports.specs.Bytes.{Appended, AppendedSome};
+ghost use Rattle.byte_ports.specs.Bytes.{Keeps, Appended, AppendedSome};
 
 use crate::refusal::StoreRefusal;
 
@@ -21,7 +21,7 @@ pub trait Sink {
         ensures bound { IfOk result (λ n. n ≤ length piece.now) }
         ensures some { IfOk result (λ n. 0 < length piece.now → 0 < n) }
         ensures appended { IfOk result (λ n. Appended (held self.old) (held self.new) (take n piece.now)) }
-        ensures same { OnErr result (held self.new ≡ held self.old) }
+        ensures same { OnErr result (Keeps (held self.old) (held self.new)) }
         ensures later { count self.old ≤ count self.new }
         ensures failed { IsErrOf result StoreRefusal.Failed → Rose (count self.old) (count self.new) };
 }

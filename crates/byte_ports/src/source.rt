@@ -2,7 +2,7 @@
 
 ghost use Rattle.std.specs.Prelude.{◌≡◌, ℕ, ◌<◌, ◌≤◌, List, Option, length, take, IfOk, OnErr, IsErrOf, Err, vec_len};
 ghost use Rattle.byte_ports.specs.Causes.{Rose};
-ghost use Rattle.byte_ports.specs.Bytes.{TookSoFar, TookSome, IsAtEnd, Gave, ExactlyPast};
+ghost use Rattle.byte_ports.specs.Bytes.{Keeps, TookSoFar, TookSome, IsAtEnd, Gave, ExactlyPast};
 
 use crate::refusal::{Failed, ReadRefusal};
 use std::alloc::Global;
@@ -26,7 +26,7 @@ pub trait Source {
         ensures bound { IfOk result (λ n. n ≤ length buf.new) }
         ensures taken { IfOk result (λ n. TookSoFar (left self.old) (left self.new) (take n buf.new)) }
         ensures end { IfOk result (λ n. n ≡ 0 → 0 < length buf.new → IsAtEnd (left self.old)) }
-        ensures same { OnErr result (left self.new ≡ left self.old) }
+        ensures same { OnErr result (Keeps (left self.old) (left self.new)) }
         ensures later { count self.old ≤ count self.new }
         ensures failed { OnErr result (Rose (count self.old) (count self.new)) };
 }

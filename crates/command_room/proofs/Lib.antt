@@ -4,6 +4,4 @@ pub mod Begins
 pub mod Steps
 pub mod Plannings
 pub mod Made
-pub mod Helds
 pub mod FormattedRooms
-pub mod Firsts

@@ -4,13 +4,13 @@ use Rattle.std.proofs.lemmas.List.{take-append-drop}
 use Rattle.line_memory.specs.Line.{bank_load}
 use Rattle.room_model.specs.declared.write.PlannedStore.{PlannedStore}
 use Rattle.room_model.specs.Chains.{RoomWords, with_word}
-use Rattle.room_model.specs.Writes.{stored_in}
+use Rattle.room_model.specs.Writes.{stored_in, AreStoresWithin}
 use Rattle.room_laws.proofs.Planned.{stored-append}
 use Rattle.incll_var.specs.Cells.{CellBankState, played}
-use Rattle.incll_var.specs.Plans.{AreInRange, behind_first}
+use Rattle.incll_var.specs.Plans.{behind_first}
 use Rattle.incll_var.proofs.Behind.{stored_loads}
 use Rattle.command_room.specs.Laws.{NoneMadeLaw, OneMoreMadeLaw, AllMadeLaw}
-use Rattle.command_room.proofs.Words.{loads-same}
+use Rattle.planned_cells.proofs.Loads.{loads-same}
 
 -- the law on a command that is begun
 pub none_made : NoneMadeLaw
@@ -31,7 +31,7 @@ drop-next (suc n) [] rest p e = absurd (cc)
 drop-next (suc n) (q ∷ qs) rest p e = drop-next n qs rest p e
 
 -- the next store, of a list of them
-one_more : (b : CellBankState) (r : RoomWords) (stores left : List PlannedStore) (n : ℕ) → AreInRange b.bank.lines left → 0 < length left → bank_load b.bank ≡ stored_in r (take n stores) → left ≡ drop n stores
+one_more : (b : CellBankState) (r : RoomWords) (stores left : List PlannedStore) (n : ℕ) → AreStoresWithin (length b.bank.lines) left → 0 < length left → bank_load b.bank ≡ stored_in r (take n stores) → left ≡ drop n stores
     → (bank_load (played b left).bank ≡ stored_in r (take (suc n) stores)) × (behind_first left ≡ drop (suc n) stores)
 one_more b r stores [] n placed some loads rest = absurd (omega (arith, some))
 one_more b r stores (p ∷ ps) n placed some loads rest = (

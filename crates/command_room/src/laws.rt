@@ -1,6 +1,6 @@
 //! Laws on command rooms, each the contract of a function that does nothing.
 
-ghost use Rattle.command_room.specs.Laws.{NoneMadeLaw, OneMoreMadeLaw, AllMadeLaw, PlanningLaw, WritesPlannedLaw, WholeLaw, FormattedRoomLaw};
+ghost use Rattle.command_room.specs.Laws.{NoneMadeLaw, OneMoreMadeLaw, AllMadeLaw, PlanningLaw, WritesPlannedLaw, WholeLaw, SameContentsLaw, FormattedRoomLaw};
 
 /// How far the stores of the command under way are made: none when it begins, one more with each step, and all where none is
 /// left. So a room whose command is under way has the loads that the first stores of the command leave.
@@ -16,9 +16,11 @@ pub fn planning_laws()
     ensures writes { WritesPlannedLaw }
 {}
 
-/// A room stands for all that the object may hold of which the room holds its part.
-pub fn whole_law()
-    ensures { WholeLaw }
+/// A room stands for all that the object may hold of which the room holds its part, and holds the same where its words do, as
+/// behind each call of a room of cells.
+pub fn whole_laws()
+    ensures whole { WholeLaw }
+    ensures same { SameContentsLaw }
 {}
 
 /// A room as memory is formatted may be a room, of whatever valid sizes and of each number that a room with commands has.

@@ -3,7 +3,7 @@
 //! A command room keeps cells, the stores of the command under way that are left, that command with its reply, and the
 //! entries of the commands that are done. A command is planned first, by reads alone; `begin_planned` then makes all the
 //! room that it needs, `step` makes one store after the other, and `note` ends it with its entry. Between commands the
-//! cells are entered, closed and restored as cells are.
+//! cells are entered, closed and restored by the calls of a room of cells.
 //!
 //! - No command under way: no store is left. The loads are what the room holds (of torn cells: what their restore brings
 //!   back), and the cells may be in any of their states.
@@ -21,11 +21,13 @@
 mod laws;
 mod noted_list;
 mod room;
+mod runs_commands;
 #[cfg(test)]
 mod tests;
 mod under_way;
 
-pub use laws::{formatted_room_law, made_laws, planning_laws, whole_law};
+pub use laws::{formatted_room_law, made_laws, planning_laws, whole_laws};
 pub use noted_list::NotedList;
 pub use room::CommandRoom;
+pub use runs_commands::RunsCommands;
 pub use under_way::UnderWay;

@@ -1,1 +1,2 @@
 pub mod SuperLine
+pub mod Stages

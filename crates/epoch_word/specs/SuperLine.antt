@@ -1,22 +1,7 @@
 -- The super room: a bank of one line, whose word 0 is the memory epoch.
 use Rattle.std.specs.Prelude.{◌≡◌, ℕ, ◌+◌, ◌<◌, ◌≤◌, ◌^◌, ◌⊎◌, [], ◌∷◌, length, slice_index}
-use Rattle.line_memory.specs.Line.{BankState, LineState, line_at, loaded, left, store_to, AreLines}
-
--- the line of the super room
-abbrev pub super_line : BankState → LineState
-super_line bank = line_at bank.lines 0
-
--- the epoch by load
-abbrev pub epoch_of : BankState → ℕ
-epoch_of bank = loaded (super_line bank) 0
-
--- the epoch that memory holds
-abbrev pub held_epoch : BankState → ℕ
-held_epoch bank = slice_index (super_line bank).base 0
-
--- the epoch that a cut leaves where the line keeps so many of its pending stores
-abbrev pub left_epoch : BankState → ℕ → ℕ
-left_epoch bank kept = slice_index (left (super_line bank) kept) 0
+use Rattle.line_memory.specs.Line.{BankState, LineState, loaded, store_to, AreLines}
+use Rattle.room_model.specs.EpochLine.{epoch_line, loaded_epoch, memory_epoch, surviving_epoch}
 
 -- a line whose word 0 is an epoch from 1 on, of 32 bits: nothing is pending on it, or the store of the next epoch alone, for which
 -- there is room
@@ -31,28 +16,28 @@ pub record IsEpochLine (l : LineState) : Type 0 where
 pub record IsSuperRoom (bank : BankState) : Type 0 where
   pub lines : AreLines bank.lines
   pub one : length bank.lines ≡ 1
-  pub line : IsEpochLine (super_line bank)
+  pub line : IsEpochLine (epoch_line bank)
 
 -- a bank that can become a super room: one line with nothing pending, and an epoch from 1 on, of 32 bits
 pub record HoldsEpoch (bank : BankState) : Type 0 where
   pub one : length bank.lines ≡ 1
-  pub quiet : (super_line bank).pending ≡ []
-  pub some : 1 ≤ held_epoch bank
-  pub fits : held_epoch bank < 2 ^ 32
+  pub quiet : (epoch_line bank).pending ≡ []
+  pub some : 1 ≤ memory_epoch bank
+  pub fits : memory_epoch bank < 2 ^ 32
 
 -- all that is pending was asked for by a write-back
 abbrev pub IsAsked : BankState → Type 0
-IsAsked bank = (super_line bank).asked ≡ length (super_line bank).pending
+IsAsked bank = (epoch_line bank).asked ≡ length (epoch_line bank).pending
 
 -- the epoch by load is in memory, and nothing is pending
 pub record IsInMemory (bank : BankState) : Type 0 where
-  pub held : held_epoch bank ≡ epoch_of bank
-  pub quiet : (super_line bank).pending ≡ []
+  pub held : memory_epoch bank ≡ loaded_epoch bank
+  pub quiet : (epoch_line bank).pending ≡ []
 
 -- whatever a cut keeps, it leaves the epoch that memory holds or the one by load
 abbrev pub SurvivorLaw : Type 0
-SurvivorLaw = (bank : BankState) (kept : ℕ) → IsSuperRoom bank → (left_epoch bank kept ≡ held_epoch bank) ⊎ (left_epoch bank kept ≡ epoch_of bank)
+SurvivorLaw = (bank : BankState) (kept : ℕ) → IsSuperRoom bank → (surviving_epoch bank kept ≡ memory_epoch bank) ⊎ (surviving_epoch bank kept ≡ loaded_epoch bank)
 
 -- the epoch by load is the one that memory holds, or the next
 abbrev pub NextLaw : Type 0
-NextLaw = (bank : BankState) → IsSuperRoom bank → (epoch_of bank ≡ held_epoch bank) ⊎ (epoch_of bank ≡ held_epoch bank + 1)
+NextLaw = (bank : BankState) → IsSuperRoom bank → (loaded_epoch bank ≡ memory_epoch bank) ⊎ (loaded_epoch bank ≡ memory_epoch bank + 1)

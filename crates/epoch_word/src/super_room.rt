@@ -2,7 +2,8 @@
 
 ghost use Rattle.std.specs.Prelude.{◌≡◌, ◌+◌, ◌<◌, ◌^◌, [], OnOk, IfOk};
 ghost use Rattle.line_memory.specs.Line.{bank_stored, bank_written_back, bank_fenced, bank_with_spare};
-ghost use Rattle.epoch_word.specs.SuperLine.{super_line, epoch_of, IsSuperRoom, HoldsEpoch, IsAsked, IsInMemory, SurvivorLaw, NextLaw};
+ghost use Rattle.epoch_word.specs.SuperLine.{IsSuperRoom, HoldsEpoch, IsAsked, IsInMemory, SurvivorLaw, NextLaw};
+ghost use Rattle.room_model.specs.EpochLine.{epoch_line, loaded_epoch};
 
 use line_memory::Bank;
 use std::alloc::AllocError;
@@ -30,7 +31,7 @@ impl SuperRoom {
     /// for one store. Want of memory is its one refusal; the bank is then given up.
     pub fn of(bank: Bank) -> Result<SuperRoom, AllocError>
         requires { HoldsEpoch bank }
-        ensures is { IfOk result (λ room. room ≡ bank_with_spare bank 0 (super_line room).spare) }
+        ensures is { IfOk result (λ room. room ≡ bank_with_spare bank 0 (epoch_line room).spare) }
         ensures room { IfOk result (λ room. IsSuperRoom room) }
     {
         let mut bank = bank;
@@ -40,7 +41,7 @@ impl SuperRoom {
 
     /// The memory epoch by load, from 1 to 2^32 - 1.
     pub fn epoch(&self) -> u32
-        ensures epoch { result ≡ epoch_of self.now }
+        ensures epoch { result ≡ loaded_epoch self.now }
         ensures room { IsSuperRoom self.now }
     {
         self.bank.load(0, 0) as u32
@@ -48,9 +49,9 @@ impl SuperRoom {
 
     /// Makes the store of the next epoch pending. It takes no memory.
     pub fn store_next(&mut self)
-        requires quiet { (super_line self.old).pending ≡ [] }
-        requires below { epoch_of self.old + 1 < 2 ^ 32 }
-        ensures is { self.new ≡ bank_stored self.old 0 0 (epoch_of self.old + 1) }
+        requires quiet { (epoch_line self.old).pending ≡ [] }
+        requires below { loaded_epoch self.old + 1 < 2 ^ 32 }
+        ensures is { self.new ≡ bank_stored self.old 0 0 (loaded_epoch self.old + 1) }
         ensures room { IsSuperRoom self.new }
     {
         let next = self.bank.load(0, 0) + 1;
@@ -69,8 +70,8 @@ impl SuperRoom {
     /// Brings what was asked for into memory. The epoch by load stays; behind a write-back it is then in memory.
     pub fn fence(&mut self)
         ensures is { self.new ≡ bank_fenced self.old }
-        ensures epoch { epoch_of self.new ≡ epoch_of self.old }
-        ensures held { IsAsked self.old → IsInMemory self.new }
+        ensures epoch { loaded_epoch self.new ≡ loaded_epoch self.old }
+        ensures in_memory { IsAsked self.old → IsInMemory self.new }
         ensures room { IsSuperRoom self.new }
     {
         self.bank.fence();

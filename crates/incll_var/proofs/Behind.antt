@@ -6,9 +6,9 @@ use Rattle.line_memory.specs.Line.{LineState, BankState, latest, line_at, loaded
 use Rattle.line_memory.specs.declared.store.Store.{Store}
 use Rattle.room_model.specs.declared.write.PlannedStore.{PlannedStore}
 use Rattle.room_model.specs.Chains.{RoomWords, with_word}
-use Rattle.room_model.specs.Writes.{store, stored_in, touches, write_stores}
+use Rattle.room_model.specs.Writes.{stored_in}
 use Rattle.incll_var.specs.Cells.{CellBankState}
-use Rattle.incll_var.specs.Laws.{StoredLoadsLaw, StoredBehindLaw, WriteBehindLaw}
+use Rattle.incll_var.specs.Laws.{StoredLoadsLaw, StoredBehindLaw}
 
 -- functions that agree everywhere are equal
 pub same_function : (r s : ℕ → ℕ → ℕ) → ((i w : ℕ) → r i w ≡ s i w) → r ≡ s
@@ -54,50 +54,3 @@ played_behind old now plan p ps bank is front made within =
     ∙ stored_behind old.bank p ps within
     ∙ ap (λ (b : CellBankState). stored_in (bank_load b.bank) (p ∷ ps)) is
     ∙ ap (λ (xs : List PlannedStore). stored_in (bank_load now.bank) xs) (sym front)
-
--- a room behind these stores and those
-stored_in-append : (r : RoomWords) (ps qs : List PlannedStore) → stored_in r (ps ++ qs) ≡ stored_in (stored_in r ps) qs
-stored_in-append r [] qs = refl
-stored_in-append r (p ∷ ps) qs = stored_in-append (with_word r p.line p.word p.value) ps qs
-
--- a store to another word
-other_word : (r : RoomWords) (line word value i w : ℕ) → w ≢ word → with_word r line word value i w ≡ r i w
-other_word r line word value i w other = ap (λ (b : Bool). if (i == line) && b then value else r i w) (ne_eqb w word other) ∙ none (i == line)
-  where
-    none : (b : Bool) → (if b && false then value else r i w) ≡ r i w
-    none true = refl
-    none false = refl
-
--- a planned write changes its word behind the plan
-pub write_behind : WriteBehindLaw
-write_behind epoch r before x line w lt =
-    ap (λ (s : RoomWords). s line w) (stored_in-append r before (write_stores epoch r before x))
-    ∙ go ((r x.line 6 == epoch) || touches x.line before)
-  where
-    s : RoomWords
-    s = stored_in r before
-
-    one : RoomWords
-    one = with_word s x.line 3 (r x.line 0)
-
-    two : RoomWords
-    two = with_word one x.line 4 (r x.line 1)
-
-    three : RoomWords
-    three = with_word two x.line 5 (r x.line 2)
-
-    four : RoomWords
-    four = with_word three x.line 6 epoch
-
-    record_stays : four line w ≡ s line w
-    record_stays =
-        other_word three x.line 6 epoch line w (λ h. absurd (omega (arith, h)))
-        ∙ other_word two x.line 5 (r x.line 2) line w (λ h. absurd (omega (arith, h)))
-        ∙ other_word one x.line 4 (r x.line 1) line w (λ h. absurd (omega (arith, h)))
-        ∙ other_word s x.line 3 (r x.line 0) line w (λ h. absurd (omega (arith, h)))
-
-    go : (b : Bool)
-        → stored_in s (if b then store x.line x.word x.value ∷ [] else store x.line 3 (r x.line 0) ∷ store x.line 4 (r x.line 1) ∷ store x.line 5 (r x.line 2) ∷ store x.line 6 epoch ∷ store x.line x.word x.value ∷ []) line w
-        ≡ with_word s x.line x.word x.value line w
-    go true = refl
-    go false = ap (λ (v : ℕ). if (line == x.line) && (w == x.word) then x.value else v) record_stays

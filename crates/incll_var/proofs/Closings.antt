@@ -1,20 +1,25 @@
 -- Closing an epoch: which lines were stored to, their write-backs, and the fence.
-use Rattle.std.proofs.Common.{◌≡◌, ℕ, ◌+◌, ◌<◌, ◌≤◌, zero, suc, Bool, true, false, List, [], ◌∷◌, length, take, get_or, map, arith, refl, ap, sym, ◌∙◌, subst, inl, inr, ◌⊎◌, if◌then◌else◌, count_by, set, get_or-set_same, get_or-set_other, length-set, length-drop}
+use Rattle.std.proofs.Common.{◌≡◌, ℕ, ◌+◌, ◌<◌, ◌≤◌, zero, suc, Bool, true, false, List, [], ◌∷◌, length, take, get_or, map, arith, refl, ap, sym, ◌∙◌, subst, inl, inr, ◌⊎◌, if◌then◌else◌, count_by, get_or-set_same, get_or-set_other, length-set, length-drop}
 use Rattle.std.proofs.lemmas.Grind.{common_steps}
 use Rattle.std.proofs.lemmas.Bool.{cases_lt}
 use Rattle.std.proofs.lemmas.Bool.Decides.{eqb_tells, nat_tests}
 use Rattle.std.proofs.lemmas.List.{get_or-map, get_or_past, length-map}
-use Rattle.line_memory.specs.Line.{LineState, BankState, AreLines, whole, loaded, line_at, fenced, no_line, is_pending, is_unasked, unasked, written_back, bank_load, bank_fenced, bank_written_back}
+use Rattle.line_memory.specs.Line.{LineState, BankState, AreLines, loaded_words, loaded, line_at, fenced, no_line, is_pending, is_unasked, unasked, written_back, bank_load, bank_fenced, bank_written_back}
 use Rattle.line_memory.specs.declared.store.Store.{Store}
 use Rattle.line_memory.proofs.Stores.{length-applied}
 use Rattle.line_memory.proofs.Survivors.{load_is_whole, whole-fenced, fenced-all}
-use Rattle.room_model.specs.Cell.{triple_of, IsSafe, IsKept}
+use Rattle.room_model.specs.Cell.{triple_of, IsSafe, IsRecoverable}
 use Rattle.incll_var.specs.declared.restore.RestoreEvent.{RestoreEvent}
 use Rattle.incll_var.specs.declared.state.CellState.{CellState}
 use Rattle.incll_var.specs.declared.state.CellState.TheVariants.{Torn, Running, Closing, Saved}
 use Rattle.incll_var.specs.Restore.{IsQuietCell}
-use Rattle.incll_var.specs.Cells.{CellBankState, IsCellIn, IsTodo, IsCellBank, IsClosing, MayClose, epoch_of, closing_state, held_at, HasSameRoom, room_of, KeepsRoom}
+use Rattle.incll_var.specs.Cells.{CellBankState, IsCellIn, IsTodo, IsStoredIn, IsCellBank, IsClosing, MayClose, epoch_of, closing_state, places_of, KeepsPlaces}
+use Rattle.incll_var.specs.Stored.{AreStored, AreWritten}
+use Rattle.incll_var.proofs.Counts.{counted_less}
+use Rattle.incll_var.proofs.Stored.{none_stored, stored_alike, stored_count, open_written, written_pending}
 use Rattle.incll_var.proofs.Behind.{same_function}
+use Rattle.room_model.specs.Banks.{memory_words}
+use Rattle.room_model.specs.Chains.{HasSameRoom}
 
 nothing_left : (ss : List Store) → length ss ≡ 0 → ss ≡ []
 nothing_left [] h = refl
@@ -41,13 +46,16 @@ counted_same p q (l ∷ lines) h =
     let more : count_by p lines ≡ count_by q lines = counted_same p q lines (λ i lt. h (suc i) (omega arith)) in
     grind (arith, common_steps)
 
--- one element that the test held of is changed to one that it does not hold of
-counted_less : (p : LineState → Bool) (lines : List LineState) (i : ℕ) (k : LineState) → i < length lines → p (line_at lines i) ≡ true → p k ≡ false → count_by p lines ≡ count_by p (set lines i k) + 1
-counted_less p [] i k lt was now = absurd (omega arith)
-counted_less p (l ∷ lines) zero k lt was now = grind (arith, common_steps)
-counted_less p (l ∷ lines) (suc i) k lt was now =
-    let more : count_by p lines ≡ count_by p (set lines i k) + 1 = counted_less p lines i k (omega arith) was now in
-    grind (arith, common_steps)
+no_line_left : (stored : List ℕ) → length stored ≡ 0 → stored ≡ []
+no_line_left [] h = refl
+no_line_left (x ∷ xs) h = absurd (omega arith)
+
+-- where no line there is has something asked for, no line has
+pub none_asked_at : (lines : List LineState) → ((i : ℕ) → i < length lines → (line_at lines i).asked ≡ 0) → (i : ℕ) → (line_at lines i).asked ≡ 0
+none_asked_at lines none i = elim (cases_lt i (length lines)) [
+  | inl lt ↦ none i lt
+  | inr ge ↦ ap (λ (l : LineState). l.asked) (get_or_past lines i no_line ge)
+]
 
 -- a line with nothing asked for is unasked exactly where a store is pending
 none_asked : (l : LineState) → l.asked ≡ 0 → is_unasked l ≡ is_pending l
@@ -81,12 +89,26 @@ begun_todo (Running e) n lines todo may h = elim (eqb_tells n 0) [
 begun_todo (Closing e) n lines todo may h = absurd may
 begun_todo (Saved e) n lines todo may h = h
 
+-- none of the lines is written back yet
+begun_stored : (state : CellState) (n : ℕ) (lines : List LineState) (stored : List ℕ) → MayClose state → n ≡ length stored → ((i : ℕ) → i < length lines → IsCellIn state (line_at lines i))
+    → IsStoredIn state lines stored → IsStoredIn (closing_state n state) lines stored
+begun_stored (Torn e) n lines stored may is each h = absurd may
+begun_stored (Running e) n lines stored may is each h = elim (eqb_tells n 0) [
+  | inl zero_is ↦ subst (λ (b : Bool). IsStoredIn (if b then Saved e else Closing e) lines stored) (sym zero_is.0) (no_line_left stored (sym is ∙ zero_is.1))
+  | inr other ↦
+      subst (λ (b : Bool). IsStoredIn (if b then Saved e else Closing e) lines stored) (sym other.0)
+      (h, (0, open_written lines stored (λ i. none_asked_at lines (λ j lt. (each j lt).asked) i) (λ i listed. sym (h.exact i) ∙ listed)))
+]
+begun_stored (Closing e) n lines stored may is each h = absurd may
+begun_stored (Saved e) n lines stored may is each h = h
+
 -- a closing begins
-pub begin_law : (b : CellBankState) (n : ℕ) → MayClose b.state → n ≡ count_by is_pending b.bank.lines → IsCellBank b → IsCellBank (record b { state = closing_state n b.state })
-begin_law b n may is cells = record {
+pub begin_law : (b : CellBankState) (n : ℕ) → MayClose b.state → n ≡ length b.stored → n ≡ count_by is_pending b.bank.lines → IsCellBank b → IsCellBank (record b { state = closing_state n b.state })
+begin_law b n may listed is cells = record {
   lines = cells.lines;
   cells = λ i lt. begun_cell b.state n (line_at b.bank.lines i) may (λ none. not_pending (line_at b.bank.lines i) (counted_at is_pending b.bank.lines (sym is ∙ none) i lt)) (cells.cells i lt);
   todo = begun_todo b.state n b.bank.lines b.todo may cells.todo;
+  stored = begun_stored b.state n b.bank.lines b.stored may listed cells.cells cells.stored;
 }
 
 closing_todo : (state : CellState) (lines lines' : List LineState) (todo : List RestoreEvent) → IsClosing state → IsTodo state lines todo → IsTodo state lines' todo
@@ -101,9 +123,33 @@ written_cell (Running e) l closing h = absurd closing
 written_cell (Closing e) l closing h = record { kept = h.kept; asked = inr refl }
 written_cell (Saved e) l closing h = absurd closing
 
+-- as many lines were stored to as have something pending
+pub stored_pending : (b : CellBankState) → MayClose b.state → IsCellBank b → length b.stored ≡ count_by is_pending b.bank.lines
+stored_pending b may cells = go b.state may cells.cells cells.stored
+  where
+    go : (state : CellState) → MayClose state → ((i : ℕ) → i < length b.bank.lines → IsCellIn state (line_at b.bank.lines i)) → IsStoredIn state b.bank.lines b.stored → length b.stored ≡ count_by is_pending b.bank.lines
+    go (Torn e) may each h = absurd may
+    go (Running e) may each h = sym (stored_count b.bank.lines b.stored h)
+    go (Closing e) may each h = absurd may
+    go (Saved e) may each h = sym (stored_count b.bank.lines b.stored (subst (AreStored b.bank.lines) (sym h) (none_stored b.bank.lines (λ i lt. (each i lt).pending))))
+
+-- in a closing the lines that were stored to are those with something pending
+pub closing_stored : (state : CellState) (lines : List LineState) (stored : List ℕ) → IsClosing state → IsStoredIn state lines stored → AreStored lines stored
+closing_stored (Torn e) lines stored closing h = absurd closing
+closing_stored (Running e) lines stored closing h = absurd closing
+closing_stored (Closing e) lines stored closing h = h.0
+closing_stored (Saved e) lines stored closing h = absurd closing
+
+written_stored : (state : CellState) (n : ℕ) (lines lines' : List LineState) (stored : List ℕ) → IsClosing state → ((i : ℕ) → is_pending (line_at lines' i) ≡ is_pending (line_at lines i)) → AreWritten n lines' stored
+    → IsStoredIn state lines stored → IsStoredIn state lines' stored
+written_stored (Torn e) n lines lines' stored closing same written h = absurd closing
+written_stored (Running e) n lines lines' stored closing same written h = absurd closing
+written_stored (Closing e) n lines lines' stored closing same written h = (stored_alike lines lines' stored same h.0, (n, written))
+written_stored (Saved e) n lines lines' stored closing same written h = absurd closing
+
 -- one line is written back
-pub next_law : (b : CellBankState) (bank : BankState) (line : ℕ) → IsClosing b.state → line < length b.bank.lines → bank ≡ bank_written_back b.bank line → AreLines bank.lines → IsCellBank b → IsCellBank (record b { bank = bank })
-next_law b bank line closing within made whole_lines cells = record {
+pub next_law : (b : CellBankState) (bank : BankState) (line n : ℕ) → AreWritten n bank.lines b.stored → IsClosing b.state → line < length b.bank.lines → bank ≡ bank_written_back b.bank line → AreLines bank.lines → IsCellBank b → IsCellBank (record b { bank = bank })
+next_law b bank line n written closing within made whole_lines cells = record {
   lines = whole_lines;
   cells = λ j lt. elim (eqb_tells j line) [
     | inl h ↦
@@ -115,6 +161,9 @@ next_law b bank line closing within made whole_lines cells = record {
         subst (λ (l : LineState). IsCellIn b.state l) (sym there) (cells.cells j lt2)
   ];
   todo = closing_todo b.state b.bank.lines bank.lines b.todo closing cells.todo;
+  stored =
+      written_stored b.state n b.bank.lines bank.lines b.stored closing
+      (λ i. ap (λ (k : BankState). is_pending (line_at k.lines i)) made ∙ written_pending b.bank.lines line within i) written cells.stored;
 }
 
 -- one line less is to be written back
@@ -133,9 +182,9 @@ all_asked l h either =
 pub record IsCarried (e : ℕ) (old new : LineState) : Type 0 where
   pub quiet : IsQuietCell e new
   pub triple : triple_of e new.base ≡ triple_of e old.base
-  pub words : new.base ≡ whole old
+  pub words : new.base ≡ loaded_words old
 
-pub line_fenced : (e : ℕ) (l : LineState) → IsKept e l → l.asked ≡ length l.pending → IsCarried e l (fenced l)
+pub line_fenced : (e : ℕ) (l : LineState) → IsRecoverable e l → l.asked ≡ length l.pending → IsCarried e l (fenced l)
 line_fenced e l kept asked =
     let both = fenced-all l asked in
     let safe : IsSafe e (triple_of e l.base) (fenced l).base = kept l.asked in
@@ -162,7 +211,7 @@ closed_todo (Closing e) lines todo closing h = h
 closed_todo (Saved e) lines todo closing h = absurd closing
 
 -- the fence at the end of a closing
-pub fence_law : (b : CellBankState) (bank : BankState) → IsClosing b.state → unasked b.bank.lines ≡ 0 → bank ≡ bank_fenced b.bank → AreLines bank.lines → IsCellBank b → IsCellBank (record { bank = bank; state = Saved (epoch_of b.state); todo = b.todo })
+pub fence_law : (b : CellBankState) (bank : BankState) → IsClosing b.state → unasked b.bank.lines ≡ 0 → bank ≡ bank_fenced b.bank → AreLines bank.lines → IsCellBank b → IsCellBank (record { bank = bank; state = Saved (epoch_of b.state); todo = b.todo; stored = [] })
 fence_law b bank closing asked made whole_lines cells =
     let all = ended b.state b.bank.lines closing asked cells.cells in
     let count : length bank.lines ≡ length b.bank.lines = ap (λ (k : BankState). length k.lines) made ∙ length-map b.bank.lines fenced in
@@ -173,13 +222,14 @@ fence_law b bank closing asked made whole_lines cells =
           let at : line_at bank.lines i ≡ fenced (line_at b.bank.lines i) = ap (λ (k : BankState). line_at k.lines i) made ∙ fenced_at b.bank.lines i within in
           subst (λ (l : LineState). IsQuietCell (epoch_of b.state) l) (sym at) (all i within).quiet;
       todo = closed_todo b.state b.bank.lines b.todo closing cells.todo;
+      stored = refl;
     }
 
 -- memory holds the same triples behind it
-pub fence_held : (b : CellBankState) (bank : BankState) → IsClosing b.state → unasked b.bank.lines ≡ 0 → bank ≡ bank_fenced b.bank → IsCellBank b → held_at (epoch_of b.state) bank ≡ held_at (epoch_of b.state) b.bank
+pub fence_held : (b : CellBankState) (bank : BankState) → IsClosing b.state → unasked b.bank.lines ≡ 0 → bank ≡ bank_fenced b.bank → IsCellBank b → memory_words (epoch_of b.state) bank ≡ memory_words (epoch_of b.state) b.bank
 fence_held b bank closing asked made cells =
-    ap (λ (k : BankState). held_at (epoch_of b.state) k) made
-    ∙ same_function (held_at (epoch_of b.state) (bank_fenced b.bank)) (held_at (epoch_of b.state) b.bank) (λ i w. elim (cases_lt i (length b.bank.lines)) [
+    ap (λ (k : BankState). memory_words (epoch_of b.state) k) made
+    ∙ same_function (memory_words (epoch_of b.state) (bank_fenced b.bank)) (memory_words (epoch_of b.state) b.bank) (λ i w. elim (cases_lt i (length b.bank.lines)) [
       | inl lt ↦ ap (λ (l : LineState). get_or (triple_of (epoch_of b.state) l.base) w 0) (fenced_at b.bank.lines i lt) ∙ ap (λ (t : List ℕ). get_or t w 0) (ended b.state b.bank.lines closing asked cells.cells i lt).triple
       | inr ge ↦ ap (λ (l : LineState). get_or (triple_of (epoch_of b.state) l.base) w 0) (fenced_past b.bank.lines i ge)
     ])
@@ -191,7 +241,7 @@ fence_loads bank bank' lines made i w lt =
     ∙ elim (cases_lt i (length bank.lines)) [
       | inl within ↦
           let l : LineState = line_at bank.lines i in
-          let same : whole (fenced l) ≡ whole l = whole-fenced l in
+          let same : loaded_words (fenced l) ≡ loaded_words l = whole-fenced l in
           ap (λ (k : LineState). loaded k w) (fenced_at bank.lines i within)
           ∙ load_is_whole (fenced l) w (length-applied l.base (take l.asked l.pending) ∙ (lines i within).eight) lt
           ∙ ap (λ (ws : List ℕ). get_or ws w 0) same
@@ -200,13 +250,13 @@ fence_loads bank bank' lines made i w lt =
     ]
 
 -- no room is lost
-pub line_room : (l : LineState) → l.asked ≤ length l.pending → room_of (fenced l) ≡ room_of l
+pub line_room : (l : LineState) → l.asked ≤ length l.pending → places_of (fenced l) ≡ places_of l
 line_room l le = let gone = length-drop l.asked l.pending in omega (arith, gone, le)
 
-pub fence_room : (bank bank' : BankState) → AreLines bank.lines → bank' ≡ bank_fenced bank → KeepsRoom bank bank'
+pub fence_room : (bank bank' : BankState) → AreLines bank.lines → bank' ≡ bank_fenced bank → KeepsPlaces bank bank'
 fence_room bank bank' lines made i =
-    ap (λ (k : BankState). room_of (line_at k.lines i)) made
+    ap (λ (k : BankState). places_of (line_at k.lines i)) made
     ∙ elim (cases_lt i (length bank.lines)) [
-      | inl within ↦ ap (λ (l : LineState). room_of l) (fenced_at bank.lines i within) ∙ line_room (line_at bank.lines i) (lines i within).asked
-      | inr ge ↦ ap (λ (l : LineState). room_of l) (fenced_past bank.lines i ge)
+      | inl within ↦ ap (λ (l : LineState). places_of l) (fenced_at bank.lines i within) ∙ line_room (line_at bank.lines i) (lines i within).asked
+      | inr ge ↦ ap (λ (l : LineState). places_of l) (fenced_past bank.lines i ge)
     ]

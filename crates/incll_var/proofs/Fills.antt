@@ -5,10 +5,10 @@ use Rattle.std.proofs.Math.Seq.{drop-cons}
 use Rattle.line_memory.specs.Line.{BankState, bank_load}
 use Rattle.room_model.specs.declared.write.PlannedStore.{PlannedStore}
 use Rattle.room_model.specs.Chains.{RoomWords}
-use Rattle.room_model.specs.Writes.{store, touches, write, write_stores}
-use Rattle.incll_var.specs.Cells.{loaded_triple}
+use Rattle.room_model.specs.Writes.{store, touches, write, write_stores, needs_none, backup_stores}
 use Rattle.incll_var.specs.Laws.{FiveStoresLaw}
-use Rattle.incll_var.specs.Plans.{PlanState, filled, grown, with_room, line_in, needs_none, backup_stores}
+use Rattle.incll_var.specs.Plans.{PlanState, filled, grown, with_places, line_in}
+use Rattle.room_model.specs.Banks.{loaded_triple}
 
 -- stores behind stores
 pub filled-twice : (p : PlanState) (a b : List PlannedStore) → filled (filled p a) b ≡ filled p (a ++ b)
@@ -40,18 +40,12 @@ backup-told t n e bank line words tag =
     ∙ ap (λ (m : ℕ). store line 3 (bank_load bank line 0) ∷ store line 4 (bank_load bank line 1) ∷ store line 5 (bank_load bank line 2) ∷ store line 6 m ∷ []) tag
 
 -- room that is made and filled leaves the room that was there
-pub filled-made : (p : PlanState) (n : ℕ) (ss : List PlannedStore) → length ss ≡ n → filled (with_room p n) ss ≡ grown p ss
+pub filled-made : (p : PlanState) (n : ℕ) (ss : List PlannedStore) → length ss ≡ n → filled (with_places p n) ss ≡ grown p ss
 filled-made p n ss is =
     let spare : p.spare + n - length ss ≡ p.spare = omega (arith, is) in
     λ j. record { stores = p.stores ++ ss; spare = spare j }
 
--- the stores of a write, by whether it needs a backup
-pub write_stores-none : (e : ℕ) (r : RoomWords) (before : List PlannedStore) (line word value : ℕ) → needs_none e r before line ≡ true → write_stores e r before (write line word value) ≡ store line word value ∷ []
-write_stores-none e r before line word value is = ap (λ (b : Bool). if b then store line word value ∷ [] else store line 3 (r line 0) ∷ store line 4 (r line 1) ∷ store line 5 (r line 2) ∷ store line 6 e ∷ store line word value ∷ []) is
-
-pub write_stores-backup : (e : ℕ) (r : RoomWords) (before : List PlannedStore) (line word value : ℕ) → needs_none e r before line ≡ false → write_stores e r before (write line word value) ≡ backup_stores e r line ++ store line word value ∷ []
-write_stores-backup e r before line word value is = ap (λ (b : Bool). if b then store line word value ∷ [] else store line 3 (r line 0) ∷ store line 4 (r line 1) ∷ store line 5 (r line 2) ∷ store line 6 e ∷ store line word value ∷ []) is
-
+-- how many stores a write has
 pub write_stores-length : (e : ℕ) (r : RoomWords) (before : List PlannedStore) (line word value : ℕ) → length (write_stores e r before (write line word value)) ≡ (if needs_none e r before line then 1 else 5)
 write_stores-length e r before line word value = go (needs_none e r before line)
   where

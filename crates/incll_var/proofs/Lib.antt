@@ -1,11 +1,16 @@
 pub mod Behind
 pub mod Closings
+pub mod Counts
 pub mod Fills
+pub mod Lists
 pub mod MoreRoom
 pub mod Planned
+pub mod PlannedLoads
 pub mod Played
 pub mod RestoreRuns
+pub mod RestoreWriteBacks
 pub mod Restores
 pub mod Safety
+pub mod Stored
 pub mod Survivors
 pub mod Tears

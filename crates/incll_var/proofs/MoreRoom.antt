@@ -1,26 +1,28 @@
 -- Room for stores: where only the room of lines grows, cells, plans and restores stay what they are.
-use Rattle.std.proofs.Common.{◌≡◌, ℕ, ◌+◌, ◌<◌, ◌≤◌, ◌==◌, Bool, true, false, zero, suc, List, [], ◌∷◌, length, map, set, arith, ap, refl, sym, ◌∙◌, subst, inl, inr, if◌then◌else◌, get_or-set_same, get_or-set_other, length-set}
+use Rattle.std.proofs.Common.{nat_lt, ◌≡◌, ℕ, ◌+◌, ◌<◌, ◌≤◌, ◌==◌, Bool, true, false, zero, suc, List, [], ◌∷◌, length, map, set, arith, ap, refl, sym, ◌∙◌, subst, inl, inr, if◌then◌else◌, get_or-set_same, get_or-set_other, length-set}
 use Rattle.std.proofs.lemmas.Bool.Decides.{eqb_tells}
-use Rattle.line_memory.specs.Line.{LineState, BankState, AreLines, HasSameWords, line_at, loaded, stored, store_to, written_back, fenced, with_spare, no_line, bank_with_spare}
+use Rattle.line_memory.specs.Line.{LineState, BankState, AreLines, HasSameWords, is_pending, is_unasked, line_at, loaded, stored, store_to, written_back, fenced, with_spare, no_line, bank_with_spare}
 use Rattle.line_memory.specs.declared.store.Store.{Store}
 use Rattle.room_model.specs.declared.write.PlannedStore.{PlannedStore}
-use Rattle.room_model.specs.Cell.{triple_of, IsKept}
+use Rattle.room_model.specs.Cell.{triple_of, IsRecoverable}
+use Rattle.room_model.specs.Writes.{AreStoresWithin}
 use Rattle.incll_var.specs.declared.restore.RestoreEvent.{RestoreEvent}
 use Rattle.incll_var.specs.declared.restore.RestoreEvent.TheVariants.{Restores, Asks, Fences}
 use Rattle.incll_var.specs.declared.state.CellState.{CellState}
 use Rattle.incll_var.specs.declared.state.CellState.TheVariants.{Torn, Running, Closing, Saved}
 use Rattle.incll_var.specs.Restore.{Each, CanDo, IsQuietCell, IsRestored, IsRestoring, lines_after, triples}
-use Rattle.incll_var.specs.Plans.{AreInRange, IsLinePlanned, IsPlanned, HasRoomFor, stores_on, line_in}
-use Rattle.incll_var.specs.Cells.{CellBankState, IsCellIn, IsClosingCell, IsTodo, IsCellBank, HasSameCells}
-use Rattle.incll_var.specs.Laws.{NoPlanLaw, OneLineRoomLaw}
+use Rattle.incll_var.specs.Plans.{IsLinePlanned, IsPlanned, HasPlacesFor, stores_on, line_in}
+use Rattle.incll_var.specs.Cells.{CellBankState, IsCellIn, IsClosingCell, IsTodo, IsStoredIn, IsCellBank, HasSameCells}
+use Rattle.incll_var.proofs.Stored.{stored_alike, written_alike}
+use Rattle.incll_var.specs.Laws.{NoPlanLaw, OneLinePlacesLaw}
 
 -- a line with the same words is the line, but for its room
 same_line : (l k : LineState) → HasSameWords l k → k ≡ with_spare l k.spare
 same_line l k h = λ j. record { base = h.base j; pending = h.pending j; asked = h.asked j; spare = k.spare }
 
 same_cell : (state : CellState) (l k : LineState) → HasSameWords l k → IsCellIn state l → IsCellIn state k
-same_cell (Torn e) l k h cell = subst (IsKept e) (sym (same_line l k h)) cell
-same_cell (Running e) l k h cell = record { kept = subst (IsKept e) (sym (same_line l k h)) cell.kept; asked = h.asked ∙ cell.asked }
+same_cell (Torn e) l k h cell = subst (IsRecoverable e) (sym (same_line l k h)) cell
+same_cell (Running e) l k h cell = record { kept = subst (IsRecoverable e) (sym (same_line l k h)) cell.kept; asked = h.asked ∙ cell.asked }
 same_cell (Closing e) l k h cell = subst (IsClosingCell e) (sym (same_line l k h)) (record { kept = cell.kept; asked = cell.asked })
 same_cell (Saved e) l k h cell = subst (IsQuietCell e) (sym (same_line l k h)) (record { eight = cell.eight; tag = cell.tag; pending = cell.pending; asked = cell.asked })
 
@@ -100,8 +102,8 @@ alike_can (Restores i w) ls ks h can =
 alike_can (Asks i) ls ks h can = let count = alike_count ls ks h in omega (arith, count, can)
 alike_can Fences ls ks h can = tt
 
-same_kept : (m : ℕ) (l k : LineState) → HasSameWords l k → IsKept m l → IsKept m k
-same_kept m l k h kept = subst (IsKept m) (sym (same_line l k h)) kept
+same_kept : (m : ℕ) (l k : LineState) → HasSameWords l k → IsRecoverable m l → IsRecoverable m k
+same_kept m l k h kept = subst (IsRecoverable m) (sym (same_line l k h)) kept
 
 same_restored : (m : ℕ) (l k : LineState) → HasSameWords l k → IsRestored m l → IsRestored m k
 same_restored m l k h cell = subst (IsRestored m) (sym (same_line l k h)) (record { quiet = record { eight = cell.quiet.eight; tag = cell.quiet.tag; pending = cell.quiet.pending; asked = cell.quiet.asked }; triple = cell.triple })
@@ -110,7 +112,7 @@ same_restored m l k h cell = subst (IsRestored m) (sym (same_line l k h)) (recor
 alike_restoring : (m : ℕ) (ls ks : List LineState) (todo : List RestoreEvent) → AreAlike ls ks → IsRestoring m ls todo → IsRestoring m ks todo
 alike_restoring m ls ks [] h all = alike_each (IsRestored m) (same_restored m) ls ks h all
 alike_restoring m ls ks (event ∷ events) h all = (
-  alike_each (IsKept m) (same_kept m) ls ks h all.0,
+  alike_each (IsRecoverable m) (same_kept m) ls ks h all.0,
   alike_can event ls ks h all.1,
   alike_triples m (lines_after event ls) (lines_after event ks) (alike_after event ls ks h) ∙ all.2 ∙ sym (alike_triples m ls ks h),
   alike_restoring m (lines_after event ls) (lines_after event ks) events (alike_after event ls ks h) all.3,
@@ -122,16 +124,32 @@ same_todo (Running e) ls ks todo h is = is
 same_todo (Closing e) ls ks todo h is = is
 same_todo (Saved e) ls ks todo h is = is
 
+pending_same : (l k : LineState) → HasSameWords l k → is_pending k ≡ is_pending l
+pending_same l k h = ap (λ (ss : List Store). nat_lt 0 (length ss)) h.pending
+
+unasked_same : (l k : LineState) → HasSameWords l k → is_unasked k ≡ is_unasked l
+unasked_same l k h = ap (λ (n : ℕ). nat_lt n (length k.pending)) h.asked ∙ ap (λ (ss : List Store). nat_lt l.asked (length ss)) h.pending
+
+same_listed : (state : CellState) (ls ks : List LineState) (stored : List ℕ) → ((i : ℕ) → HasSameWords (line_at ls i) (line_at ks i)) → IsStoredIn state ls stored → IsStoredIn state ks stored
+same_listed (Torn e) ls ks stored h is = is
+same_listed (Running e) ls ks stored h is = stored_alike ls ks stored (λ i. pending_same (line_at ls i) (line_at ks i) (h i)) is
+same_listed (Closing e) ls ks stored h is = (
+  stored_alike ls ks stored (λ i. pending_same (line_at ls i) (line_at ks i) (h i)) is.0,
+  (is.1.0, written_alike is.1.0 ls ks stored (λ i. unasked_same (line_at ls i) (line_at ks i) (h i)) is.1.1),
+)
+same_listed (Saved e) ls ks stored h is = is
+
 -- a bank of cells stays one
 pub same_cells : (b : CellBankState) (bank : BankState) → HasSameCells b.bank bank → AreLines bank.lines → IsCellBank b → IsCellBank (record b { bank = bank })
 same_cells b bank same whole_lines cells = record {
   lines = whole_lines;
   cells = λ i lt. let count = same.count in same_cell b.state (line_at b.bank.lines i) (line_at bank.lines i) (same.lines i) (cells.cells i (omega (arith, count, lt)));
   todo = same_todo b.state b.bank.lines bank.lines b.todo (alike b.bank.lines bank.lines same.count same.lines) cells.todo;
+  stored = same_listed b.state b.bank.lines bank.lines b.stored same.lines cells.stored;
 }
 
 -- a plan stays one
-same_places : (ls ks : List LineState) (ss : List PlannedStore) → length ks ≡ length ls → AreInRange ls ss → AreInRange ks ss
+same_places : (ls ks : List LineState) (ss : List PlannedStore) → length ks ≡ length ls → AreStoresWithin (length ls) ss → AreStoresWithin (length ks) ss
 same_places ls ks [] count h = tt
 same_places ls ks (s ∷ ss) count h = (let a = h.0 in omega (arith, count, a), h.1, same_places ls ks ss count h.2)
 
@@ -184,7 +202,7 @@ fewer i (p ∷ ps) = let rest = fewer i ps in go (p.line == i) rest
     go false rest = omega (arith, rest)
 
 -- where the line of each store has room for n stores, there is room for n stores
-pub room_for : (n : ℕ) (lines : List LineState) (ps : List PlannedStore) → length ps ≤ n → ((k : ℕ) → k < length ps → n ≤ (line_at lines (line_in ps k)).spare) → HasRoomFor lines ps
+pub room_for : (n : ℕ) (lines : List LineState) (ps : List PlannedStore) → length ps ≤ n → ((k : ℕ) → k < length ps → n ≤ (line_at lines (line_in ps k)).spare) → HasPlacesFor lines ps
 room_for n lines ps fits room i lt = short ps n room fits
   where
     short : (ps : List PlannedStore) (n : ℕ) → ((k : ℕ) → k < length ps → n ≤ (line_at lines (line_in ps k)).spare) → length ps ≤ n → length (stores_on i ps) ≤ (line_at lines i).spare
@@ -201,7 +219,7 @@ room_for n lines ps fits room i lt = short ps n room fits
     ]
 
 -- the line of a store of a plan in range
-pub line_in-within : (lines : List LineState) (ps : List PlannedStore) (k : ℕ) → AreInRange lines ps → k < length ps → line_in ps k < length lines
+pub line_in-within : (lines : List LineState) (ps : List PlannedStore) (k : ℕ) → AreStoresWithin (length lines) ps → k < length ps → line_in ps k < length lines
 line_in-within lines [] k places lt = absurd (omega arith)
 line_in-within lines (p ∷ ps) zero places lt = places.0
 line_in-within lines (p ∷ ps) (suc k) places lt = line_in-within lines ps k places.2 (omega arith)
@@ -214,7 +232,7 @@ Holds false = ⊥
 pub no_plan : NoPlanLaw
 no_plan epoch lines = (record { places = tt; safe = λ i lt. record { safe = tt; tagged = λ h. absurd (subst Holds h tt) } }, λ i lt. omega arith)
 
-pub one_line_room : OneLineRoomLaw
+pub one_line_room : OneLinePlacesLaw
 one_line_room lines ss one fits i lt =
     let all = fewer i ss in
     let first : i ≡ 0 = omega (arith, one, lt) in

@@ -3,15 +3,15 @@ use Rattle.std.proofs.Common.{lit<, eq-eqb, ◌≡◌, ◌≢◌, ℕ, ◌<◌, 
 use Rattle.std.proofs.lemmas.Grind.{common_steps}
 use Rattle.std.proofs.lemmas.Bool.Decides.{eqb_tells}
 use Rattle.std.proofs.lemmas.List.{append-nil}
-use Rattle.line_memory.specs.Line.{LineState, BankState, applied, whole, line_at, loaded, store_to, bank_load}
+use Rattle.line_memory.specs.Line.{LineState, BankState, applied, loaded_words, line_at, loaded, store_to, bank_load}
 use Rattle.line_memory.specs.declared.store.Store.{Store}
 use Rattle.line_memory.proofs.Stores.{applied-append}
 use Rattle.room_model.specs.declared.write.PlannedStore.{PlannedStore}
-use Rattle.room_model.specs.Cell.{tag_of, triple_of, IsSafe, IsKept}
-use Rattle.room_model.specs.Writes.{store, touches, write, write_stores}
+use Rattle.room_model.specs.Cell.{tag_of, triple_of, IsSafe, IsRecoverable}
+use Rattle.room_model.specs.Writes.{store, touches, write, write_stores, AreStoresWithin}
 use Rattle.incll_var.specs.declared.state.CellState.{CellState}
 use Rattle.incll_var.specs.declared.state.CellState.TheVariants.{Torn, Running, Closing, Saved}
-use Rattle.incll_var.specs.Plans.{AreSafe, AreInRange, IsLinePlanned, IsPlanned, no_stores, stores_on}
+use Rattle.incll_var.specs.Plans.{AreSafe, IsLinePlanned, IsPlanned, no_stores, stores_on}
 use Rattle.incll_var.specs.Cells.{CellBankState, IsCellIn, IsCellBank, IsRunning, epoch_of}
 use Rattle.incll_var.proofs.Safety.{safe-one, safe-five, whole_safe, loaded-whole}
 
@@ -71,35 +71,35 @@ safe_more e t ws [] ts a b = b
 safe_more e t ws (s ∷ ss) ts a b = (a.0, safe_more e t (set ws s.word s.value) ss ts a.1 b)
 
 -- one store to the record, behind stores that leave the epoch's tag
-one_more : (e : ℕ) (l : LineState) (ss : List Store) (word value : ℕ) → word < 3 → IsKept e l → IsLinePlanned e l ss → tag_of (applied (whole l) ss) ≡ e → IsLinePlanned e l (ss ++ store_to word value ∷ [])
+one_more : (e : ℕ) (l : LineState) (ss : List Store) (word value : ℕ) → word < 3 → IsRecoverable e l → IsLinePlanned e l ss → tag_of (applied (loaded_words l) ss) ≡ e → IsLinePlanned e l (ss ++ store_to word value ∷ [])
 one_more e l ss word value lt kept planned tagged =
     let t = triple_of e l.base in
-    let end : IsSafe e t (applied (whole l) ss) = safe_end e t (whole l) ss (whole_safe e l kept) planned.safe in
+    let end : IsSafe e t (applied (loaded_words l) ss) = safe_end e t (loaded_words l) ss (whole_safe e l kept) planned.safe in
     record {
-      safe = safe_more e t (whole l) ss (store_to word value ∷ []) planned.safe (safe-one e t (applied (whole l) ss) word value lt end tagged, tt);
-      tagged = λ h. ap tag_of (applied-append (whole l) ss (store_to word value ∷ [])) ∙ get_or-set_other (applied (whole l) ss) word 6 value 0 (omega arith) ∙ tagged;
+      safe = safe_more e t (loaded_words l) ss (store_to word value ∷ []) planned.safe (safe-one e t (applied (loaded_words l) ss) word value lt end tagged, tt);
+      tagged = λ h. ap tag_of (applied-append (loaded_words l) ss (store_to word value ∷ [])) ∙ get_or-set_other (applied (loaded_words l) ss) word 6 value 0 (omega arith) ∙ tagged;
     }
 
 -- the five stores of the first write of the line
-five_first : (e : ℕ) (l : LineState) (word value : ℕ) → word < 3 → IsKept e l → loaded l 6 ≢ e
+five_first : (e : ℕ) (l : LineState) (word value : ℕ) → word < 3 → IsRecoverable e l → loaded l 6 ≢ e
     → IsLinePlanned e l (store_to 3 (loaded l 0) ∷ store_to 4 (loaded l 1) ∷ store_to 5 (loaded l 2) ∷ store_to 6 e ∷ store_to word value ∷ [])
 five_first e l word value lt kept other =
     let t = triple_of e l.base in
     let all = whole_safe e l kept in
-    let tag : tag_of (whole l) ≢ e = λ h. other (loaded-whole e l 6 kept (lit< tt) ∙ h) in
-    let five = safe-five e t (whole l) word value lt all tag in
+    let tag : tag_of (loaded_words l) ≢ e = λ h. other (loaded-whole e l 6 kept (lit< tt) ∙ h) in
+    let five = safe-five e t (loaded_words l) word value lt all tag in
     rw (loaded-whole e l 0 kept (lit< tt), loaded-whole e l 1 kept (lit< tt), loaded-whole e l 2 kept (lit< tt)) (record {
       safe = five;
       tagged = λ h.
-          let three = set (set (set (whole l) 3 (get_or (whole l) 0 0)) 4 (get_or (whole l) 1 0)) 5 (get_or (whole l) 2 0) in
+          let three = set (set (set (loaded_words l) 3 (get_or (loaded_words l) 0 0)) 4 (get_or (loaded_words l) 1 0)) 5 (get_or (loaded_words l) 2 0) in
           get_or-set_other (set three 6 e) word 6 value 0 (omega arith) ∙ get_or-set_same three 6 e 0 (omega (arith, five.1.1.0.eight));
     })
 
 -- a write keeps what is planned on its line
-line_more : (e : ℕ) (l : LineState) (ss : List Store) (word value : ℕ) → word < 3 → IsKept e l → IsLinePlanned e l ss → IsLinePlanned e l (ss ++ write_of e l (not (no_stores ss)) word value)
+line_more : (e : ℕ) (l : LineState) (ss : List Store) (word value : ℕ) → word < 3 → IsRecoverable e l → IsLinePlanned e l ss → IsLinePlanned e l (ss ++ write_of e l (not (no_stores ss)) word value)
 line_more e l [] word value lt kept planned = elim (eqb_tells (loaded l 6) e) [
   | inl h ↦
-      let tagged : tag_of (whole l) ≡ e = sym (loaded-whole e l 6 kept (lit< tt)) ∙ h.1 in
+      let tagged : tag_of (loaded_words l) ≡ e = sym (loaded-whole e l 6 kept (lit< tt)) ∙ h.1 in
       subst (λ (b : Bool). IsLinePlanned e l (if b || false then store_to word value ∷ [] else store_to 3 (loaded l 0) ∷ store_to 4 (loaded l 1) ∷ store_to 5 (loaded l 2) ∷ store_to 6 e ∷ store_to word value ∷ [])) (sym h.0)
       (one_more e l [] word value lt kept planned tagged)
   | inr h ↦
@@ -112,7 +112,7 @@ line_more e l (s ∷ ss) word value lt kept planned =
 
 -- a write keeps what is planned on each line
 lines_more : (e : ℕ) (bank : BankState) (i : ℕ) (ps : List PlannedStore) (word value : ℕ) → i < length bank.lines → word < 3
-    → ((j : ℕ) → j < length bank.lines → IsKept e (line_at bank.lines j)) → ((j : ℕ) → j < length bank.lines → IsLinePlanned e (line_at bank.lines j) (stores_on j ps))
+    → ((j : ℕ) → j < length bank.lines → IsRecoverable e (line_at bank.lines j)) → ((j : ℕ) → j < length bank.lines → IsLinePlanned e (line_at bank.lines j) (stores_on j ps))
     → (j : ℕ) → j < length bank.lines → IsLinePlanned e (line_at bank.lines j) (stores_on j (ps ++ write_stores e (bank_load bank) ps (write i word value)))
 lines_more e bank i ps word value within lt kept planned j here =
     let l : LineState = line_at bank.lines i in
@@ -131,23 +131,23 @@ lines_more e bank i ps word value within lt kept planned j here =
     ])
 
 -- places of two plans
-in_range-append : (lines : List LineState) (ps qs : List PlannedStore) → AreInRange lines ps → AreInRange lines qs → AreInRange lines (ps ++ qs)
+in_range-append : (lines : List LineState) (ps qs : List PlannedStore) → AreStoresWithin (length lines) ps → AreStoresWithin (length lines) qs → AreStoresWithin (length lines) (ps ++ qs)
 in_range-append lines [] qs a b = b
 in_range-append lines (p ∷ ps) qs a b = (a.0, a.1, in_range-append lines ps qs a.2 b)
 
 -- the stores of a write are to words of its line
-in_range-write : (e : ℕ) (bank : BankState) (i : ℕ) (ps : List PlannedStore) (word value : ℕ) → i < length bank.lines → word < 3 → AreInRange bank.lines (write_stores e (bank_load bank) ps (write i word value))
+in_range-write : (e : ℕ) (bank : BankState) (i : ℕ) (ps : List PlannedStore) (word value : ℕ) → i < length bank.lines → word < 3 → AreStoresWithin (length bank.lines) (write_stores e (bank_load bank) ps (write i word value))
 in_range-write e bank i ps word value within lt = go ((bank_load bank i 6 == e) || touches i ps)
   where
-    last : AreInRange bank.lines (store i word value ∷ [])
+    last : AreStoresWithin (length bank.lines) (store i word value ∷ [])
     last = (within, omega arith, tt)
 
-    go : (b : Bool) → AreInRange bank.lines (if b then store i word value ∷ [] else store i 3 (bank_load bank i 0) ∷ store i 4 (bank_load bank i 1) ∷ store i 5 (bank_load bank i 2) ∷ store i 6 e ∷ store i word value ∷ [])
+    go : (b : Bool) → AreStoresWithin (length bank.lines) (if b then store i word value ∷ [] else store i 3 (bank_load bank i 0) ∷ store i 4 (bank_load bank i 1) ∷ store i 5 (bank_load bank i 2) ∷ store i 6 e ∷ store i word value ∷ [])
     go true = last
     go false = (within, lit< tt, (within, lit< tt, (within, lit< tt, (within, lit< tt, last))))
 
 -- a running cell is kept
-pub running_kept : (state : CellState) (l : LineState) → IsRunning state → IsCellIn state l → IsKept (epoch_of state) l
+pub running_kept : (state : CellState) (l : LineState) → IsRunning state → IsCellIn state l → IsRecoverable (epoch_of state) l
 running_kept (Torn e) l running holds = absurd running
 running_kept (Running e) l running holds = holds.kept
 running_kept (Closing e) l running holds = absurd running

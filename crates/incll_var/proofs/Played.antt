@@ -1,16 +1,21 @@
 -- One store of a plan is made.
-use Rattle.std.proofs.Common.{◌≡◌, ℕ, ◌<◌, ◌≤◌, Bool, List, [], ◌∷◌, length, set, arith, refl, ap, sym, ◌∙◌, subst, inl, inr, get_or-set_same, get_or-set_other, length-set, if◌then◌else◌}
+use Rattle.std.proofs.Common.{true, ◌++◌, ◌≡◌, ℕ, ◌<◌, ◌≤◌, Bool, List, [], ◌∷◌, length, set, arith, refl, ap, sym, ◌∙◌, subst, inl, inr, get_or-set_same, get_or-set_other, length-set, if◌then◌else◌}
 use Rattle.std.proofs.lemmas.Bool.Decides.{eqb_tells}
-use Rattle.line_memory.specs.Line.{LineState, BankState, AreLines, applied, whole, line_at, stored, store_to, no_line, bank_stored}
+use Rattle.line_memory.specs.Line.{LineState, BankState, AreLines, applied, loaded_words, line_at, is_pending, stored, store_to, no_line, bank_stored}
 use Rattle.line_memory.specs.declared.store.Store.{Store}
 use Rattle.line_memory.proofs.Survivors.{whole-stored}
 use Rattle.room_model.specs.declared.write.PlannedStore.{PlannedStore}
-use Rattle.room_model.specs.Cell.{tag_of, triple_of, IsKept}
+use Rattle.room_model.specs.Cell.{tag_of, triple_of, IsRecoverable}
+use Rattle.room_model.specs.Writes.{AreStoresWithin}
 use Rattle.incll_var.specs.declared.restore.RestoreEvent.{RestoreEvent}
 use Rattle.incll_var.specs.declared.state.CellState.{CellState}
 use Rattle.incll_var.specs.declared.state.CellState.TheVariants.{Torn, Running, Closing, Saved}
-use Rattle.incll_var.specs.Plans.{AreSafe, AreInRange, IsLinePlanned, IsPlanned, HasRoomFor, stores_on}
-use Rattle.incll_var.specs.Cells.{CellBankState, IsCellIn, IsTodo, IsCellBank, IsRunning, epoch_of}
+use Rattle.incll_var.specs.Plans.{AreSafe, IsLinePlanned, IsPlanned, HasPlacesFor, stores_on}
+use Rattle.incll_var.specs.Cells.{CellBankState, IsCellIn, IsTodo, IsStoredIn, IsCellBank, IsRunning, epoch_of}
+use Rattle.flush_list.specs.Lists.{listed_behind}
+use Rattle.std.proofs.lemmas.List.{length-append}
+use Rattle.std.proofs.lemmas.Bool.{lt-ltb}
+use Rattle.incll_var.proofs.Stored.{stored_behind}
 use Rattle.incll_var.proofs.Safety.{kept-stored}
 use Rattle.incll_var.proofs.Planned.{running_kept}
 
@@ -19,10 +24,10 @@ abbrev played_on : List LineState → PlannedStore → List LineState
 played_on lines p = set lines p.line (stored (line_at lines p.line) p.word p.value)
 
 -- the first of a line's planned stores keeps the line, and leaves the others planned
-line_played : (e : ℕ) (l : LineState) (word value : ℕ) (ss : List Store) → IsLinePlanned e l (store_to word value ∷ ss) → IsKept e l
-    → IsKept e (stored l word value) × IsLinePlanned e (stored l word value) ss
+line_played : (e : ℕ) (l : LineState) (word value : ℕ) (ss : List Store) → IsLinePlanned e l (store_to word value ∷ ss) → IsRecoverable e l
+    → IsRecoverable e (stored l word value) × IsLinePlanned e (stored l word value) ss
 line_played e l word value ss planned kept =
-    let words : whole (stored l word value) ≡ set (whole l) word value = whole-stored l word value in (
+    let words : loaded_words (stored l word value) ≡ set (loaded_words l) word value = whole-stored l word value in (
       kept-stored e l word value kept planned.safe.0,
       record {
         safe = subst (λ (ws : List ℕ). AreSafe e (triple_of e l.base) ws ss) (sym words) planned.safe.1;
@@ -32,14 +37,14 @@ line_played e l word value ss planned kept =
 
 -- what a line is behind the store
 record IsPlayed (e : ℕ) (old l : LineState) (ss : List Store) : Type 0 where
-  kept : IsKept e l
+  kept : IsRecoverable e l
   planned : IsLinePlanned e l ss
   asked : l.asked ≡ old.asked
   room : length ss ≤ l.spare
 
 -- each line behind the store
 lines_played : (e : ℕ) (lines : List LineState) (p : PlannedStore) (ps : List PlannedStore) → p.line < length lines → ((i : ℕ) → i < length lines → IsLinePlanned e (line_at lines i) (stores_on i (p ∷ ps)))
-    → HasRoomFor lines (p ∷ ps) → ((i : ℕ) → i < length lines → IsKept e (line_at lines i))
+    → HasPlacesFor lines (p ∷ ps) → ((i : ℕ) → i < length lines → IsRecoverable e (line_at lines i))
     → (i : ℕ) → i < length lines → IsPlayed e (line_at lines i) (line_at (played_on lines p) i) (stores_on i ps)
 lines_played e lines p ps within planned room kept i lt = elim (eqb_tells p.line i) [
   | inl h ↦
@@ -67,7 +72,7 @@ cell_played (Closing e) old l ss running holds h = absurd running
 cell_played (Saved e) old l ss running holds h = absurd running
 
 -- places stay
-in_range-played : (lines : List LineState) (p : PlannedStore) (ps : List PlannedStore) → AreInRange lines ps → AreInRange (played_on lines p) ps
+in_range-played : (lines : List LineState) (p : PlannedStore) (ps : List PlannedStore) → AreStoresWithin (length lines) ps → AreStoresWithin (length (played_on lines p)) ps
 in_range-played lines p [] h = tt
 in_range-played lines p (q ∷ qs) h = (rw length-set h.0, h.1, in_range-played lines p qs h.2)
 
@@ -78,19 +83,30 @@ running_todo (Running e) lines lines' todo running h = h
 running_todo (Closing e) lines lines' todo running h = absurd running
 running_todo (Saved e) lines lines' todo running h = absurd running
 
+pub stored_pending : (l : LineState) (word value : ℕ) → is_pending (stored l word value) ≡ true
+stored_pending l word value = let more = length-append l.pending (store_to word value ∷ []) in lt-ltb 0 (length (l.pending ++ store_to word value ∷ [])) (omega (arith, more))
+
+-- the line of the store is among those that were stored to
+played_stored : (state : CellState) (lines : List LineState) (listed : List ℕ) (p : PlannedStore) → IsRunning state → p.line < length lines → IsStoredIn state lines listed
+    → IsStoredIn state (played_on lines p) (listed_behind listed p.line)
+played_stored (Torn e) lines listed p running lt h = absurd running
+played_stored (Running e) lines listed p running lt h = stored_behind lines listed p.line (stored (line_at lines p.line) p.word p.value) h lt (stored_pending (line_at lines p.line) p.word p.value)
+played_stored (Closing e) lines listed p running lt h = absurd running
+played_stored (Saved e) lines listed p running lt h = absurd running
+
 -- what cells and a plan are before a store of the plan is made
 pub record CanPlay (now : CellBankState) (plan : List PlannedStore) : Type 0 where
   pub running : IsRunning now.state
   pub planned : IsPlanned (epoch_of now.state) now.bank.lines plan
-  pub room : HasRoomFor now.bank.lines plan
+  pub room : HasPlacesFor now.bank.lines plan
 
 -- what they are behind it
-pub record HasPlayed (state : CellState) (todo : List RestoreEvent) (bank : BankState) (plan : List PlannedStore) : Type 0 where
-  pub cells : IsCellBank (record { bank = bank; state = state; todo = todo })
+pub record HasPlayed (state : CellState) (todo : List RestoreEvent) (stored : List ℕ) (bank : BankState) (plan : List PlannedStore) : Type 0 where
+  pub cells : IsCellBank (record { bank = bank; state = state; todo = todo; stored = stored })
   pub planned : IsPlanned (epoch_of state) bank.lines plan
-  pub room : HasRoomFor bank.lines plan
+  pub room : HasPlacesFor bank.lines plan
 
-played_law : (old : CellBankState) (p : PlannedStore) (ps : List PlannedStore) → AreLines (played_on old.bank.lines p) → IsCellBank old → CanPlay old (p ∷ ps) → HasPlayed old.state old.todo (bank_stored old.bank p.line p.word p.value) ps
+played_law : (old : CellBankState) (p : PlannedStore) (ps : List PlannedStore) → AreLines (played_on old.bank.lines p) → IsCellBank old → CanPlay old (p ∷ ps) → HasPlayed old.state old.todo (listed_behind old.stored p.line) (bank_stored old.bank p.line p.word p.value) ps
 played_law old p ps whole_lines cells can =
     let lines = old.bank.lines in
     let each : (i : ℕ) → i < length (played_on lines p) → IsPlayed (epoch_of old.state) (line_at lines i) (line_at (played_on lines p) i) (stores_on i ps) = λ i lt.
@@ -100,6 +116,7 @@ played_law old p ps whole_lines cells can =
         lines = whole_lines;
         cells = λ i lt. cell_played old.state (line_at lines i) (line_at (played_on lines p) i) (stores_on i ps) can.running (cells.cells i (simp length-set at lt)) (each i lt);
         todo = running_todo old.state lines (played_on lines p) old.todo can.running cells.todo;
+        stored = played_stored old.state lines old.stored p can.running can.planned.places.0 cells.stored;
       };
       planned = record { places = in_range-played lines p ps can.planned.places.2; safe = λ i lt. (each i lt).planned };
       room = λ i lt. (each i lt).room;
@@ -107,7 +124,7 @@ played_law old p ps whole_lines cells can =
 
 -- the same, for values that are equal to these
 pub play_law : (old now : CellBankState) (plan : List PlannedStore) (p : PlannedStore) (ps : List PlannedStore) (bank : BankState) → old ≡ now → plan ≡ p ∷ ps → bank ≡ bank_stored old.bank p.line p.word p.value
-    → AreLines bank.lines → IsCellBank old → CanPlay now plan → HasPlayed old.state old.todo bank ps
+    → AreLines bank.lines → IsCellBank old → CanPlay now plan → HasPlayed old.state old.todo (listed_behind old.stored p.line) bank ps
 play_law old now plan p ps bank is front made whole_lines cells can =
     let here : CanPlay old (p ∷ ps) = subst (λ (b : CellBankState). CanPlay b (p ∷ ps)) (sym is) (subst (λ (xs : List PlannedStore). CanPlay now xs) front can) in
-    subst (λ (b : BankState). HasPlayed old.state old.todo b ps) (sym made) (played_law old p ps (subst (λ (b : BankState). AreLines b.lines) made whole_lines) cells here)
+    subst (λ (b : BankState). HasPlayed old.state old.todo (listed_behind old.stored p.line) b ps) (sym made) (played_law old p ps (subst (λ (b : BankState). AreLines b.lines) made whole_lines) cells here)

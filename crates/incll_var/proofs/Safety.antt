@@ -3,11 +3,11 @@ use Rattle.std.proofs.Common.{◌≡◌, ℕ, ◌<◌, ◌≢◌, List, [], ◌�
 use Rattle.std.proofs.lemmas.Grind.{common_steps}
 use Rattle.std.proofs.lemmas.Bool.{cases_lt}
 use Rattle.std.proofs.Math.Seq.{take-length}
-use Rattle.line_memory.specs.Line.{LineState, applied, whole, loaded, stored, store_to}
+use Rattle.line_memory.specs.Line.{LineState, applied, loaded_words, loaded, stored, store_to}
 use Rattle.line_memory.specs.declared.store.Store.{Store}
 use Rattle.line_memory.proofs.Stores.{latest-applied}
 use Rattle.line_memory.proofs.Survivors.{left-stored, left-stored_last}
-use Rattle.room_model.specs.Cell.{tag_of, triple_of, IsSafe, IsKept}
+use Rattle.room_model.specs.Cell.{tag_of, triple_of, IsSafe, IsRecoverable}
 use Rattle.incll_var.specs.Plans.{AreSafe}
 
 -- what holds of eight words holds of words that are eight
@@ -24,7 +24,7 @@ from_eight P all (a ∷ b ∷ c ∷ d ∷ x ∷ f ∷ g ∷ h ∷ []) e = all a 
 from_eight P all (a ∷ b ∷ c ∷ d ∷ x ∷ f ∷ g ∷ h ∷ i ∷ ws) e = absurd (omega arith)
 
 -- one more store makes one more survivor
-pub kept-stored : (e : ℕ) (l : LineState) (word value : ℕ) → IsKept e l → IsSafe e (triple_of e l.base) (set (whole l) word value) → IsKept e (stored l word value)
+pub kept-stored : (e : ℕ) (l : LineState) (word value : ℕ) → IsRecoverable e l → IsSafe e (triple_of e l.base) (set (loaded_words l) word value) → IsRecoverable e (stored l word value)
 kept-stored e l word value kept safe k = elim (cases_lt (length l.pending) k) [
   | inr le ↦ subst (λ (ws : List ℕ). IsSafe e (triple_of e l.base) ws) (sym (left-stored l word value k le)) (kept k)
   | inl lt ↦ subst (λ (ws : List ℕ). IsSafe e (triple_of e l.base) ws) (sym (left-stored_last l word value k lt)) safe
@@ -49,9 +49,9 @@ safe-five e t ws word value lt safe other =
     (first, (second, (third, (fourth, (safe-one e t _ word value lt fourth refl, tt)))))) ws safe.eight safe other
 
 -- a kept cell is safe by loads
-pub whole_safe : (e : ℕ) (l : LineState) → IsKept e l → IsSafe e (triple_of e l.base) (whole l)
+pub whole_safe : (e : ℕ) (l : LineState) → IsRecoverable e l → IsSafe e (triple_of e l.base) (loaded_words l)
 whole_safe e l kept = subst (λ (ss : List Store). IsSafe e (triple_of e l.base) (applied l.base ss)) (take-length l.pending) (kept (length l.pending))
 
 -- a load of a kept cell is its word
-pub loaded-whole : (e : ℕ) (l : LineState) (w : ℕ) → IsKept e l → w < 8 → loaded l w ≡ get_or (whole l) w 0
+pub loaded-whole : (e : ℕ) (l : LineState) (w : ℕ) → IsRecoverable e l → w < 8 → loaded l w ≡ get_or (loaded_words l) w 0
 loaded-whole e l w kept lt = latest-applied l.base l.pending w (omega (arith, (kept 0).eight))

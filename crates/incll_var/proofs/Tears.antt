@@ -3,19 +3,20 @@ use Rattle.std.proofs.Common.{lit<, eq-eqb, ◌≡◌, ℕ, ◌+◌, ◌<◌, �
 use Rattle.std.proofs.lemmas.Bool.Decides.{eqb_tells}
 use Rattle.std.proofs.lemmas.List.{append_assoc, length-append, map-append}
 use Rattle.std.proofs.Math.Seq.{get_or-append_seam, set-append_seam}
-use Rattle.line_memory.specs.Line.{LineState, BankState, AreLines, HasSameWords, applied, whole, line_at, loaded, stored, written_back, fenced, no_line}
+use Rattle.line_memory.specs.Line.{LineState, BankState, AreLines, HasSameWords, applied, loaded_words, line_at, loaded, stored, written_back, fenced, no_line}
 use Rattle.line_memory.specs.declared.store.Store.{Store}
 use Rattle.line_memory.proofs.Survivors.{whole-stored}
-use Rattle.room_model.specs.Cell.{tag_of, record_of, backup_of, triple_of, IsKept}
+use Rattle.room_model.specs.Cell.{tag_of, record_of, backup_of, triple_of, IsRecoverable}
 use Rattle.incll_var.specs.declared.restore.RestoreEvent.{RestoreEvent}
 use Rattle.incll_var.specs.declared.restore.RestoreEvent.TheVariants.{Restores, Asks, Fences}
 use Rattle.incll_var.specs.declared.state.CellState.TheVariants.{Torn}
 use Rattle.incll_var.specs.Restore.{Each, CanDo, IsQuietCell, IsRestored, IsRestoring, lines_after, triples, tagged_from, restores, asks, restore_events, events_at, HaveRoomToRestore}
-use Rattle.incll_var.specs.Cells.{IsCellBank, AreSettled, HasSameCells, held_at}
+use Rattle.incll_var.specs.Cells.{IsCellBank, AreSettled, HasSameCells}
 use Rattle.incll_var.proofs.Safety.{kept-stored, safe-one, from_eight, whole_safe, loaded-whole}
 use Rattle.incll_var.proofs.Survivors.{quiet_kept}
 use Rattle.incll_var.proofs.Closings.{line_fenced}
 use Rattle.incll_var.proofs.Restores.{each_append, each_from, each_mapped, each_weaker, same_held}
+use Rattle.room_model.specs.Banks.{memory_words}
 
 -- a test as a proposition
 abbrev Holds : Bool → Type 0
@@ -30,17 +31,17 @@ restored_word l w = stored l w (loaded l (w + 3))
 
 -- a line whose survivors have its triple, and whose tag by loads is m
 record IsTagged (m : ℕ) (l : LineState) : Type 0 where
-  kept : IsKept m l
-  tag : tag_of (whole l) ≡ m
+  kept : IsRecoverable m l
+  tag : tag_of (loaded_words l) ≡ m
 
-whole_word : (m : ℕ) (l : LineState) (w : ℕ) → IsKept m l → w < 3 → whole (restored_word l w) ≡ set (whole l) w (get_or (whole l) (w + 3) 0)
+whole_word : (m : ℕ) (l : LineState) (w : ℕ) → IsRecoverable m l → w < 3 → loaded_words (restored_word l w) ≡ set (loaded_words l) w (get_or (loaded_words l) (w + 3) 0)
 whole_word m l w kept lt =
-    whole-stored l w (loaded l (w + 3)) ∙ ap (λ (v : ℕ). set (whole l) w v) (loaded-whole m l (w + 3) kept (omega arith))
+    whole-stored l w (loaded l (w + 3)) ∙ ap (λ (v : ℕ). set (loaded_words l) w v) (loaded-whole m l (w + 3) kept (omega arith))
 
 tagged_word : (m : ℕ) (l : LineState) (w : ℕ) → w < 3 → IsTagged m l → IsTagged m (restored_word l w)
 tagged_word m l w lt h = record {
-  kept = kept-stored m l w (loaded l (w + 3)) h.kept (safe-one m (triple_of m l.base) (whole l) w (loaded l (w + 3)) lt (whole_safe m l h.kept) h.tag);
-  tag = ap tag_of (whole_word m l w h.kept lt) ∙ get_or-set_other (whole l) w 6 (get_or (whole l) (w + 3) 0) 0 (omega arith) ∙ h.tag;
+  kept = kept-stored m l w (loaded l (w + 3)) h.kept (safe-one m (triple_of m l.base) (loaded_words l) w (loaded l (w + 3)) lt (whole_safe m l h.kept) h.tag);
+  tag = ap tag_of (whole_word m l w h.kept lt) ∙ get_or-set_other (loaded_words l) w 6 (get_or (loaded_words l) (w + 3) 0) 0 (omega arith) ∙ h.tag;
 }
 
 -- one word after the other gets its backup
@@ -52,9 +53,9 @@ three_words ws eight = from_eight (λ us. record_of (put_back (put_back (put_bac
 
 -- a line behind the stores of the restore: its words are its triple, and where it is not tagged nothing is pending
 record IsStored (m : ℕ) (l : LineState) : Type 0 where
-  kept : IsKept m l
+  kept : IsRecoverable m l
   asked : l.asked ≡ 0
-  words : record_of (whole l) ≡ triple_of m l.base
+  words : record_of (loaded_words l) ≡ triple_of m l.base
   alone : (tag_of l.base == m) ≡ false → l.pending ≡ []
 
 -- a torn line that has room
@@ -62,10 +63,10 @@ record IsReady (m : ℕ) (l : LineState) : Type 0 where
   torn : IsQuietCell m l
   room : tag_of l.base ≡ m → 3 ≤ l.spare
 
-torn_kept : (m : ℕ) (l : LineState) → IsQuietCell m l → IsKept m l
+torn_kept : (m : ℕ) (l : LineState) → IsQuietCell m l → IsRecoverable m l
 torn_kept m l h = quiet_kept m m l (omega arith) h
 
-torn_whole : (m : ℕ) (l : LineState) → IsQuietCell m l → whole l ≡ l.base
+torn_whole : (m : ℕ) (l : LineState) → IsQuietCell m l → loaded_words l ≡ l.base
 torn_whole m l h = ap (λ (ss : List Store). applied l.base ss) h.pending
 
 abbrev all_three : LineState → LineState
@@ -83,7 +84,7 @@ three_stored m l h tag =
     let first = tagged_word m l 0 (lit< tt) zeroth in
     let second = tagged_word m (restored_word l 0) 1 (lit< tt) first in
     let third = tagged_word m (restored_word (restored_word l 0) 1) 2 (lit< tt) second in
-    let words : whole (all_three l) ≡ put_back (put_back (put_back l.base 0) 1) 2 =
+    let words : loaded_words (all_three l) ≡ put_back (put_back (put_back l.base 0) 1) 2 =
     whole_word m (restored_word (restored_word l 0) 1) 2 second.kept (lit< tt)
     ∙ ap (λ (ws : List ℕ). put_back ws 2) (whole_word m (restored_word l 0) 1 first.kept (lit< tt))
     ∙ ap (λ (ws : List ℕ). put_back (put_back ws 1) 2) (whole_word m l 0 zeroth.kept (lit< tt))
@@ -125,9 +126,9 @@ abbrev asked_for : ℕ → LineState → LineState
 asked_for m l = if tag_of l.base == m then written_back l else l
 
 record IsAsked (m : ℕ) (l : LineState) : Type 0 where
-  kept : IsKept m l
+  kept : IsRecoverable m l
   asked : l.asked ≡ length l.pending
-  words : record_of (whole l) ≡ triple_of m l.base
+  words : record_of (loaded_words l) ≡ triple_of m l.base
 
 asked_line : (m : ℕ) (l : LineState) → IsStored m l → IsAsked m (asked_for m l)
 asked_line m l h = elim (eqb_tells (tag_of l.base) m) [
@@ -143,10 +144,10 @@ fenced_line m l h =
 
 -- an event that changes one line alone, and not its triple
 one_event : (m : ℕ) (front : List LineState) (l l' : LineState) (ls : List LineState) (event : RestoreEvent) (es : List RestoreEvent)
-    → Each (IsKept m) front → IsKept m l → Each (IsKept m) ls → CanDo event (front ++ l ∷ ls) → lines_after event (front ++ l ∷ ls) ≡ front ++ l' ∷ ls → triple_of m l'.base ≡ triple_of m l.base
+    → Each (IsRecoverable m) front → IsRecoverable m l → Each (IsRecoverable m) ls → CanDo event (front ++ l ∷ ls) → lines_after event (front ++ l ∷ ls) ≡ front ++ l' ∷ ls → triple_of m l'.base ≡ triple_of m l.base
     → IsRestoring m (front ++ l' ∷ ls) es → IsRestoring m (front ++ l ∷ ls) (event ∷ es)
 one_event m front l l' ls event es before here behind can made same rest = (
-  each_append (IsKept m) front (l ∷ ls) before (here, behind),
+  each_append (IsRecoverable m) front (l ∷ ls) before (here, behind),
   can,
   ap (triples m) made ∙ map-append (λ (k : LineState). triple_of m k.base) front (l' ∷ ls) ∙ ap (λ (t : List ℕ). triples m front ++ t ∷ triples m ls) same ∙ sym (map-append (λ (k : LineState). triple_of m k.base) front (l ∷ ls)),
   subst (λ (lines : List LineState). IsRestoring m lines es) (sym made) rest,
@@ -171,11 +172,11 @@ can_word front l ls w lt room = (within_seam front l ls, lt, subst (λ (k : Line
 further : (F : List LineState → ℕ → Type 0) (front : List LineState) (a : LineState) (ls : List LineState) → F ((front ++ a ∷ []) ++ ls) (length (front ++ a ∷ [])) → F (front ++ a ∷ ls) (length front + 1)
 further F front a ls h = subst (λ (n : ℕ). F (front ++ a ∷ ls) n) (length-append front (a ∷ [])) (subst (λ (lines : List LineState). F lines (length (front ++ a ∷ []))) (append_assoc front (a ∷ []) ls) h)
 
-ready_kept : (m : ℕ) (ls : List LineState) → Each (IsReady m) ls → Each (IsKept m) ls
-ready_kept m ls h = each_weaker (IsReady m) (IsKept m) (λ l r. torn_kept m l r.torn) ls h
+ready_kept : (m : ℕ) (ls : List LineState) → Each (IsReady m) ls → Each (IsRecoverable m) ls
+ready_kept m ls h = each_weaker (IsReady m) (IsRecoverable m) (λ l r. torn_kept m l r.torn) ls h
 
 -- the stores
-store_pass : (m : ℕ) (front rest : List LineState) (es : List RestoreEvent) → Each (IsKept m) front → Each (IsReady m) rest → IsRestoring m (front ++ map (copied m) rest) es
+store_pass : (m : ℕ) (front rest : List LineState) (es : List RestoreEvent) → Each (IsRecoverable m) front → Each (IsReady m) rest → IsRestoring m (front ++ map (copied m) rest) es
     → IsRestoring m (front ++ rest) (restores (tagged_from m (length front) rest) ++ es)
 store_pass m front [] es before ready h = h
 store_pass m front (l ∷ ls) es before ready h =
@@ -183,7 +184,7 @@ store_pass m front (l ∷ ls) es before ready h =
     let stored_line = copied_stored m l ready.0 in
     let next : IsRestoring m (front ++ done ∷ ls) (restores (tagged_from m (length front + 1) ls) ++ es) =
     further (λ lines n. IsRestoring m lines (restores (tagged_from m n ls) ++ es)) front done ls
-    (store_pass m (front ++ done ∷ []) ls es (each_append (IsKept m) front (done ∷ []) before (stored_line.kept, tt)) ready.1
+    (store_pass m (front ++ done ∷ []) ls es (each_append (IsRecoverable m) front (done ∷ []) before (stored_line.kept, tt)) ready.1
     (subst (λ (lines : List LineState). IsRestoring m lines es) (sym (append_assoc front (done ∷ []) (map (copied m) ls))) h)) in
     elim (eqb_tells (tag_of l.base) m) [
       | inl e ↦
@@ -198,7 +199,7 @@ store_pass m front (l ∷ ls) es before ready h =
           (subst (λ (k : LineState). IsRestoring m (front ++ k ∷ ls) (restores (tagged_from m (length front + 1) ls) ++ es)) is next)
     ]
   where
-    three : (m : ℕ) (front : List LineState) (l : LineState) (ls : List LineState) (es : List RestoreEvent) → Each (IsKept m) front → Each (IsKept m) ls → IsReady m l → tag_of l.base ≡ m
+    three : (m : ℕ) (front : List LineState) (l : LineState) (ls : List LineState) (es : List RestoreEvent) → Each (IsRecoverable m) front → Each (IsRecoverable m) ls → IsReady m l → tag_of l.base ≡ m
         → IsRestoring m (front ++ all_three l ∷ ls) es → IsRestoring m (front ++ l ∷ ls) (Restores (length front) 0 ∷ Restores (length front) 1 ∷ Restores (length front) 2 ∷ es)
     three m front l ls es before behind ready tag h =
         let room = ready.room tag in
@@ -212,16 +213,16 @@ store_pass m front (l ∷ ls) es before ready h =
         (one_event m front two (all_three l) ls (Restores (length front) 2) es before second.kept behind (can_word front two ls 2 (lit< tt) (omega (arith, room))) (word_made front two ls 2) refl h))
 
 -- the write-backs
-ask_pass : (m : ℕ) (front rest : List LineState) (es : List RestoreEvent) → Each (IsKept m) front → Each (IsStored m) rest → IsRestoring m (front ++ map (asked_for m) rest) es
+ask_pass : (m : ℕ) (front rest : List LineState) (es : List RestoreEvent) → Each (IsRecoverable m) front → Each (IsStored m) rest → IsRestoring m (front ++ map (asked_for m) rest) es
     → IsRestoring m (front ++ rest) (asks (tagged_from m (length front) rest) ++ es)
 ask_pass m front [] es before each h = h
 ask_pass m front (l ∷ ls) es before each h =
     let done = asked_for m l in
     let next : IsRestoring m (front ++ done ∷ ls) (asks (tagged_from m (length front + 1) ls) ++ es) =
     further (λ lines n. IsRestoring m lines (asks (tagged_from m n ls) ++ es)) front done ls
-    (ask_pass m (front ++ done ∷ []) ls es (each_append (IsKept m) front (done ∷ []) before ((asked_line m l each.0).kept, tt)) each.1
+    (ask_pass m (front ++ done ∷ []) ls es (each_append (IsRecoverable m) front (done ∷ []) before ((asked_line m l each.0).kept, tt)) each.1
     (subst (λ (lines : List LineState). IsRestoring m lines es) (sym (append_assoc front (done ∷ []) (map (asked_for m) ls))) h)) in
-    let behind = each_weaker (IsStored m) (IsKept m) (λ k r. r.kept) ls each.1 in
+    let behind = each_weaker (IsStored m) (IsRecoverable m) (λ k r. r.kept) ls each.1 in
     elim (eqb_tells (tag_of l.base) m) [
       | inl e ↦
           let events : tagged_from m (length front) (l ∷ ls) ≡ length front ∷ tagged_from m (length front + 1) ls = ap (λ (b : Bool). if b then length front ∷ tagged_from m (length front + 1) ls else tagged_from m (length front + 1) ls) e.0 in
@@ -238,7 +239,7 @@ ask_pass m front (l ∷ ls) es before each h =
 
 -- the fence
 fence_pass : (m : ℕ) (lines : List LineState) → Each (IsAsked m) lines → IsRestoring m lines (Fences ∷ [])
-fence_pass m lines h = (each_weaker (IsAsked m) (IsKept m) (λ l r. r.kept) lines h, tt, same m lines h, each_mapped (IsAsked m) (IsRestored m) fenced (λ l r. (fenced_line m l r).0) lines h)
+fence_pass m lines h = (each_weaker (IsAsked m) (IsRecoverable m) (λ l r. r.kept) lines h, tt, same m lines h, each_mapped (IsAsked m) (IsRestored m) fenced (λ l r. (fenced_line m l r).0) lines h)
   where
     same : (m : ℕ) (lines : List LineState) → Each (IsAsked m) lines → triples m (map fenced lines) ≡ triples m lines
     same m [] h = refl
@@ -314,9 +315,9 @@ same_tags m n (l ∷ ls) (k ∷ ks) count same =
 
 -- what a torn bank is when its restore begins
 pub record Begins (m : ℕ) (given bank : BankState) (events : List RestoreEvent) : Type 0 where
-  pub cells : IsCellBank (record { bank = bank; state = Torn m; todo = events })
+  pub cells : IsCellBank (record { bank = bank; state = Torn m; todo = events; stored = [] })
   pub order : events ≡ events_at m given.lines
-  pub held : held_at m bank ≡ held_at m given
+  pub held : memory_words m bank ≡ memory_words m given
 
 pub torn_begins : (m : ℕ) (old new : BankState) (todo : List RestoreEvent) → AreSettled m old.lines → HasSameCells old new → AreLines new.lines → HaveRoomToRestore m new.lines → todo ≡ events_at m new.lines → Begins m old new todo
 torn_begins m old new todo torn same whole_lines room is =
@@ -326,6 +327,7 @@ torn_begins m old new todo torn same whole_lines room is =
         lines = whole_lines;
         cells = λ i lt. torn_kept m (line_at new.lines i) (now i lt);
         todo = subst (λ (events : List RestoreEvent). IsRestoring m new.lines events) (sym is) (torn_law m new.lines now room);
+        stored = refl;
       };
       order = is ∙ ap restore_events (same_tags m 0 old.lines new.lines same.count same.lines);
       held = same_held m old new (λ i. (same.lines i).base);

@@ -1,19 +1,22 @@
 -- Banks of cells: their states, and what holds of every cell in each of them.
-use Rattle.std.specs.Prelude.{◌≡◌, ℕ, ◌+◌, ◌<◌, ◌≤◌, ◌==◌, ◌⊎◌, true, List, [], ◌∷◌, length, if◌then◌else◌, slice_index}
-use Rattle.line_memory.specs.Line.{LineState, BankState, line_at, left, bank_load, bank_stored, bank_written_back, is_unasked, HasSameWords, AreLines}
+use Rattle.std.specs.Prelude.{◌≡◌, ℕ, ◌+◌, ◌<◌, ◌≤◌, ◌==◌, ◌⊎◌, true, List, [], ◌∷◌, length, if◌then◌else◌}
+use Rattle.line_memory.specs.Line.{LineState, BankState, line_at, bank_stored, bank_written_back, is_unasked, HasSameWords, AreLines}
 use Rattle.room_model.specs.declared.write.PlannedStore.{PlannedStore}
-use Rattle.room_model.specs.Chains.{RoomWords}
-use Rattle.room_model.specs.Cell.{tag_of, triple_of, IsKept}
+use Rattle.room_model.specs.Cell.{tag_of, IsRecoverable}
 use Rattle.incll_var.specs.declared.state.CellState.{CellState}
 use Rattle.incll_var.specs.declared.state.CellState.TheVariants.{Torn, Running, Closing, Saved}
 use Rattle.incll_var.specs.declared.restore.RestoreEvent.{RestoreEvent}
+use Rattle.flush_list.specs.Lists.{listed_behind}
+use Rattle.incll_var.specs.Stored.{AreStored, AreFirstWritten, first_unasked}
 use Rattle.incll_var.specs.Restore.{bank_after, IsQuietCell, IsRestored, IsRestoring}
 
--- a bank of cells, its state, and the events of its restore that are left
+-- a bank of cells, its state, the events of its restore that are left, and the lines that were stored to in this epoch, in the order of
+-- their first stores
 pub record CellBankState : Type 0 where
   pub bank : BankState
   pub state : CellState
   pub todo : List RestoreEvent
+  pub stored : List ℕ
 
 -- the epoch of a state
 abbrev pub epoch_of : CellState → ℕ
@@ -73,17 +76,17 @@ MayRestore (Saved e) = Unit {0}
 
 -- a cell that is written to: every survivor has the triple that memory holds, and no store was asked for
 pub record IsOpenCell (epoch : ℕ) (l : LineState) : Type 0 where
-  pub kept : IsKept epoch l
+  pub kept : IsRecoverable epoch l
   pub asked : l.asked ≡ 0
 
 -- a cell that is being closed: every survivor has the triple that memory holds, and all stores were asked for, or none
 pub record IsClosingCell (epoch : ℕ) (l : LineState) : Type 0 where
-  pub kept : IsKept epoch l
+  pub kept : IsRecoverable epoch l
   pub asked : (l.asked ≡ 0) ⊎ (l.asked ≡ length l.pending)
 
 -- what holds of every cell in a state
 abbrev pub IsCellIn : CellState → LineState → Type 0
-IsCellIn (Torn e) l = IsKept e l
+IsCellIn (Torn e) l = IsRecoverable e l
 IsCellIn (Running e) l = IsOpenCell e l
 IsCellIn (Closing e) l = IsClosingCell e l
 IsCellIn (Saved e) l = IsQuietCell e l
@@ -95,15 +98,24 @@ IsTodo (Running e) lines todo = todo ≡ []
 IsTodo (Closing e) lines todo = todo ≡ []
 IsTodo (Saved e) lines todo = todo ≡ []
 
+-- while the cells run, the lines that were stored to are those with something pending; in a closing the first of them are written back;
+-- in no other state was one stored to
+abbrev pub IsStoredIn : CellState → List LineState → List ℕ → Type 0
+IsStoredIn (Torn e) lines stored = stored ≡ []
+IsStoredIn (Running e) lines stored = AreStored lines stored
+IsStoredIn (Closing e) lines stored = AreStored lines stored × AreFirstWritten lines stored
+IsStoredIn (Saved e) lines stored = stored ≡ []
+
 -- a bank of cells in its state
 pub record IsCellBank (b : CellBankState) : Type 0 where
   pub lines : AreLines b.bank.lines
   pub cells : (i : ℕ) → i < length b.bank.lines → IsCellIn b.state (line_at b.bank.lines i)
   pub todo : IsTodo b.state b.bank.lines b.todo
+  pub stored : IsStoredIn b.state b.bank.lines b.stored
 
 -- a bank of cells that is not in a restore
 abbrev pub cells_in : CellState → BankState → CellBankState
-cells_in state bank = record { bank = bank; state = state; todo = [] }
+cells_in state bank = record { bank = bank; state = state; todo = []; stored = [] }
 
 -- these cells in another state
 abbrev pub with_state : CellBankState → CellState → CellBankState
@@ -122,30 +134,10 @@ AreSettled epoch lines = (i : ℕ) → i < length lines → IsSettled epoch (lin
 abbrev pub AreRestored : ℕ → List LineState → Type 0
 AreRestored epoch lines = (i : ℕ) → i < length lines → IsRestored epoch (line_at lines i)
 
--- the room that memory holds at an epoch: the triples of the base words
-abbrev pub held_at : ℕ → BankState → RoomWords
-held_at epoch bank = λ line w. slice_index (triple_of epoch (line_at bank.lines line).base) w
-
--- the room that a cut leaves at an epoch, where each line keeps as many of its pending stores as the choice says
-abbrev pub left_at : ℕ → BankState → (ℕ → ℕ) → RoomWords
-left_at epoch bank choice = λ line w. slice_index (triple_of epoch (left (line_at bank.lines line) (choice line))) w
-
--- two rooms have the same records
-abbrev pub HasSameRecords : RoomWords → RoomWords → Type 0
-HasSameRecords r s = (line w : ℕ) → w < 3 → r line w ≡ s line w
-
--- two rooms have the same words
-abbrev pub HasSameRoom : RoomWords → RoomWords → Type 0
-HasSameRoom r s = (line w : ℕ) → w < 8 → r line w ≡ s line w
-
--- the triple of a line by loads
-abbrev pub loaded_triple : BankState → ℕ → List ℕ
-loaded_triple bank line = bank_load bank line 0 ∷ bank_load bank line 1 ∷ bank_load bank line 2 ∷ []
-
--- the cells behind the first of these stores
+-- the cells behind the first of these stores, whose line joins those that were stored to where it is not one of them
 abbrev pub played : CellBankState → List PlannedStore → CellBankState
 played b [] = b
-played b (s ∷ ss) = record b { bank = bank_stored b.bank s.line s.word s.value }
+played b (s ∷ ss) = record b { bank = bank_stored b.bank s.line s.word s.value; stored = listed_behind b.stored s.line }
 
 -- the state behind the begin of a closing, where so many lines were stored to
 abbrev pub closing_state : ℕ → CellState → CellState
@@ -161,13 +153,17 @@ pub record WritesOneBack (old new : BankState) : Type 0 where
   pub unasked : is_unasked (line_at old.lines line) ≡ true
   pub is : new ≡ bank_written_back old line
 
+-- of the lines that were stored to, the one that a closing writes back next: the first that is not yet written back
+abbrev pub next_in : CellBankState → ℕ
+next_in b = first_unasked b.bank.lines b.stored
+
 -- the stores that a line has pending and those that it has room for, together
-abbrev pub room_of : LineState → ℕ
-room_of l = length l.pending + l.spare
+abbrev pub places_of : LineState → ℕ
+places_of l = length l.pending + l.spare
 
 -- each line has as much room as before
-abbrev pub KeepsRoom : BankState → BankState → Type 0
-KeepsRoom old new = (i : ℕ) → room_of (line_at new.lines i) ≡ room_of (line_at old.lines i)
+abbrev pub KeepsPlaces : BankState → BankState → Type 0
+KeepsPlaces old new = (i : ℕ) → places_of (line_at new.lines i) ≡ places_of (line_at old.lines i)
 
 -- nothing but the room for stores has changed, and no line has less of it
 pub record HasSameCells (old new : BankState) : Type 0 where
@@ -177,9 +173,16 @@ pub record HasSameCells (old new : BankState) : Type 0 where
 
 -- the cells behind the next event of their restore; where none is left they are saved
 abbrev pub restored_on : CellState → BankState → List RestoreEvent → CellBankState
-restored_on state bank [] = record { bank = bank; state = Saved (epoch_of state); todo = [] }
-restored_on state bank (event ∷ events) = record { bank = bank_after event bank; state = state; todo = events }
+restored_on state bank [] = record { bank = bank; state = Saved (epoch_of state); todo = []; stored = [] }
+restored_on state bank (event ∷ events) = record { bank = bank_after event bank; state = state; todo = events; stored = [] }
 
 -- the cells behind the next event of their restore
 abbrev pub after_next : CellBankState → CellBankState
 after_next b = restored_on b.state b.bank b.todo
+
+-- saved in such an epoch
+abbrev pub IsSavedIn : (ℕ → Type 0) → CellState → Type 0
+IsSavedIn P (Torn c) = ⊥
+IsSavedIn P (Running c) = ⊥
+IsSavedIn P (Closing c) = ⊥
+IsSavedIn P (Saved c) = P c

@@ -1,11 +1,10 @@
 -- Plans: stores that are to be made one after the other. What must hold of a plan so that each prefix of it leaves the cells safe.
-use Rattle.std.specs.Prelude.{◌≡◌, ℕ, ◌+◌, ◌-◌, ◌<◌, ◌≤◌, ◌==◌, ◌||◌, Bool, true, false, List, [], ◌∷◌, ◌++◌, length, if◌then◌else◌, slice_set, slice_index_or}
-use Rattle.line_memory.specs.Line.{LineState, line_at, whole, applied, store_to}
+use Rattle.std.specs.Prelude.{◌≡◌, ℕ, ◌+◌, ◌-◌, ◌<◌, ◌≤◌, ◌==◌, Bool, true, false, List, [], ◌∷◌, ◌++◌, length, if◌then◌else◌, slice_set, slice_index_or}
+use Rattle.line_memory.specs.Line.{LineState, line_at, loaded_words, applied, store_to}
 use Rattle.line_memory.specs.declared.store.Store.{Store}
 use Rattle.room_model.specs.declared.write.PlannedStore.{PlannedStore}
-use Rattle.room_model.specs.Chains.{RoomWords}
 use Rattle.room_model.specs.Cell.{tag_of, triple_of, IsSafe}
-use Rattle.room_model.specs.Writes.{store, touches}
+use Rattle.room_model.specs.Writes.{store, AreStoresWithin}
 
 -- a plan: the stores that are left, in order, and the room that was made for more
 pub record PlanState : Type 0 where
@@ -21,8 +20,8 @@ abbrev pub filled : PlanState → List PlannedStore → PlanState
 filled p ss = record { stores = p.stores ++ ss; spare = p.spare - length ss }
 
 -- the plan with room for so many more
-abbrev pub with_room : PlanState → ℕ → PlanState
-with_room p n = record p { spare = p.spare + n }
+abbrev pub with_places : PlanState → ℕ → PlanState
+with_places p n = record p { spare = p.spare + n }
 
 -- these stores but for the first
 abbrev pub behind_first : List PlannedStore → List PlannedStore
@@ -37,17 +36,13 @@ plan_behind p = record { stores = behind_first p.stores; spare = p.spare + 1 }
 abbrev pub cleared : PlanState → PlanState
 cleared p = record { stores = []; spare = p.spare + length p.stores }
 
+-- a store of a plan, by its number
+abbrev pub store_in : List PlannedStore → ℕ → PlannedStore
+store_in ss k = slice_index_or ss k (store 0 0 0)
+
 -- the line of a store of a plan, by the store's number
 abbrev pub line_in : List PlannedStore → ℕ → ℕ
-line_in ss k = (slice_index_or ss k (store 0 0 0)).line
-
--- whether a write of a line needs no backup: the line has the epoch's tag, or one of the stores before is to it
-abbrev pub needs_none : ℕ → RoomWords → List PlannedStore → ℕ → Bool
-needs_none epoch r before line = (r line 6 == epoch) || touches line before
-
--- the stores of a backup: the record's words, and then the epoch's tag
-abbrev pub backup_stores : ℕ → RoomWords → ℕ → List PlannedStore
-backup_stores epoch r line = store line 3 (r line 0) ∷ store line 4 (r line 1) ∷ store line 5 (r line 2) ∷ store line 6 epoch ∷ []
+line_in ss k = (store_in ss k).line
 
 -- the stores of a plan to one line
 abbrev pub stores_on : ℕ → List PlannedStore → List Store
@@ -68,19 +63,14 @@ AreSafe epoch triple words (s ∷ ss) =
 -- stores that are planned on a line: behind each of them the cell is safe, and where there is one the cell has the epoch's tag behind
 -- the last
 pub record IsLinePlanned (epoch : ℕ) (l : LineState) (ss : List Store) : Type 0 where
-  pub safe : AreSafe epoch (triple_of epoch l.base) (whole l) ss
-  pub tagged : no_stores ss ≡ false → tag_of (applied (whole l) ss) ≡ epoch
-
--- each of these stores is to a word of a line that there is
-abbrev pub AreInRange : List LineState → List PlannedStore → Type 0
-AreInRange lines [] = Unit {0}
-AreInRange lines (s ∷ ss) = (s.line < length lines) × (s.word < 8) × AreInRange lines ss
+  pub safe : AreSafe epoch (triple_of epoch l.base) (loaded_words l) ss
+  pub tagged : no_stores ss ≡ false → tag_of (applied (loaded_words l) ss) ≡ epoch
 
 -- these stores may be made one after the other in the epoch: each is to a word of a line, and each leaves its cell safe
 pub record IsPlanned (epoch : ℕ) (lines : List LineState) (ss : List PlannedStore) : Type 0 where
-  pub places : AreInRange lines ss
+  pub places : AreStoresWithin (length lines) ss
   pub safe : (i : ℕ) → i < length lines → IsLinePlanned epoch (line_at lines i) (stores_on i ss)
 
 -- each line has room for the stores that are planned to it
-abbrev pub HasRoomFor : List LineState → List PlannedStore → Type 0
-HasRoomFor lines ss = (i : ℕ) → i < length lines → length (stores_on i ss) ≤ (line_at lines i).spare
+abbrev pub HasPlacesFor : List LineState → List PlannedStore → Type 0
+HasPlacesFor lines ss = (i : ℕ) → i < length lines → length (stores_on i ss) ≤ (line_at lines i).spare

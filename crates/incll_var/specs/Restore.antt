@@ -1,8 +1,8 @@
 -- Restoring: what memory holds of the epoch that a cut broke off is put back from the backups. A restore is a list of events, each of
 -- which names a place and no value.
-use Rattle.std.specs.Prelude.{◌≡◌, ℕ, ◌<◌, ◌≤◌, ◌+◌, ◌==◌, List, [], ◌∷◌, ◌++◌, length, map, if◌then◌else◌, slice_set}
+use Rattle.std.specs.Prelude.{◌≡◌, ℕ, ◌<◌, ◌≤◌, ◌+◌, ◌==◌, Bool, true, false, List, [], ◌∷◌, ◌++◌, length, map, if◌then◌else◌, slice_set}
 use Rattle.line_memory.specs.Line.{LineState, BankState, line_at, loaded, stored, written_back, fenced, counted}
-use Rattle.room_model.specs.Cell.{tag_of, record_of, triple_of, IsKept}
+use Rattle.room_model.specs.Cell.{tag_of, record_of, triple_of, IsRecoverable}
 use Rattle.incll_var.specs.declared.restore.RestoreEvent.{RestoreEvent}
 use Rattle.incll_var.specs.declared.restore.RestoreEvent.TheVariants.{Restores, Asks, Fences}
 use Rattle.incll_var.specs.declared.restore.RestoreStep.{RestoreStep}
@@ -36,6 +36,16 @@ restore_events (i ∷ is) = restores (i ∷ is) ++ (asks (i ∷ is) ++ Fences �
 -- the events of a restore at an epoch
 abbrev pub events_at : ℕ → List LineState → List RestoreEvent
 events_at epoch lines = restore_events (tagged_from epoch 0 lines)
+
+-- whether the line is tagged with the epoch
+abbrev pub is_tagged : ℕ → LineState → Bool
+is_tagged epoch l = tag_of l.base == epoch
+
+-- whether an event is a write-back
+abbrev pub is_ask : RestoreEvent → Bool
+is_ask (Restores i w) = false
+is_ask (Asks i) = true
+is_ask Fences = false
 
 -- the lines behind an event
 abbrev pub lines_after : RestoreEvent → List LineState → List LineState
@@ -96,7 +106,7 @@ triples epoch lines = map (λ l. triple_of epoch l.base) lines
 abbrev pub IsRestoring : ℕ → List LineState → List RestoreEvent → Type 0
 IsRestoring epoch lines [] = Each (IsRestored epoch) lines
 IsRestoring epoch lines (event ∷ events) =
-    Each (IsKept epoch) lines × CanDo event lines × (triples epoch (lines_after event lines) ≡ triples epoch lines) × IsRestoring epoch (lines_after event lines) events
+    Each (IsRecoverable epoch) lines × CanDo event lines × (triples epoch (lines_after event lines) ≡ triples epoch lines) × IsRestoring epoch (lines_after event lines) events
 
 -- each line that is tagged with the epoch has room for the three stores of its restore
 abbrev pub HaveRoomToRestore : ℕ → List LineState → Type 0

@@ -1,22 +1,24 @@
-//! Banks of cells. All stores to a bank go through plans while it runs; a closing and a restore go by single events.
+//! Banks of cells. All stores to a bank go through plans while it runs; a closing and a restore go by single events. A
+//! closing goes by a list of the lines that were stored to. Room for a line's first store is made with a place in the list.
 
-ghost use Rattle.std.specs.Prelude.{◌≡◌, ◌≢◌, [], ◌+◌, ◌<◌, ◌≤◌, true, IsTrue, ◌↔◌, length, not, count_by, if◌then◌else◌, OnOk, OnErr, IfOk};
-ghost use Rattle.line_memory.specs.Line.{line_at, bank_load, bank_fenced, bank_with_spare, is_pending, unasked, AreLines};
-ghost use Rattle.room_model.specs.Writes.{stored_in, touches, write, write_stores};
-ghost use Rattle.incll_var.specs.Plans.{grown, filled, plan_behind, needs_none, backup_stores, IsPlanned, HasRoomFor, AreInRange};
+ghost use Rattle.std.specs.Prelude.{◌≡◌, ◌≢◌, ℕ, slice_set, [], ◌+◌, ◌<◌, ◌≤◌, true, IsTrue, ◌↔◌, length, not, count_by, if◌then◌else◌, OnOk, OnErr, IfOk};
+ghost use Rattle.line_memory.specs.Line.{line_at, bank_load, bank_fenced, bank_written_back, bank_with_spare, with_spare, is_pending, unasked, AreLines};
+ghost use Rattle.room_model.specs.Writes.{stored_in, touches, write, write_stores, needs_none, backup_stores, AreStoresWithin};
+ghost use Rattle.incll_var.specs.Plans.{grown, filled, plan_behind, IsPlanned, HasPlacesFor};
+ghost use Rattle.incll_var.specs.Stored.{KeepsList, has_places};
 ghost use Rattle.incll_var.specs.Restore.{events_at, next_step, HaveRoomToRestore};
-ghost use Rattle.incll_var.specs.Cells.{IsCellBank, IsTorn, IsRunning, IsClosing, IsSaved, MayEnter, MayClose, MayRestore, epoch_of, cells_in, with_state, closing_state, AreSettled, AreRestored, held_at, HasSameRecords, HasSameRoom, loaded_triple, played, WritesOneBack, KeepsRoom, HasSameCells, after_next};
+ghost use Rattle.incll_var.specs.Cells.{IsCellBank, IsTorn, IsRunning, IsClosing, IsSaved, MayEnter, MayClose, MayRestore, epoch_of, cells_in, with_state, closing_state, AreSettled, AreRestored, played, WritesOneBack, next_in, KeepsPlaces, HasSameCells, after_next};
+ghost use Rattle.room_model.specs.Banks.{memory_words, loaded_triple};
+ghost use Rattle.room_model.specs.Chains.{HasSameRecords, HasSameRoom};
 
 use crate::plan::Plan;
 use crate::restore::{RestoreStep, Todo, do_event, reserve_tagged, tagged_lines};
 use crate::state::CellState;
+use flush_list::FlushList;
 use line_memory::Bank;
-use room_model::PlannedStore;
+use room_model::{PlannedStore, TAG};
 use std::alloc::{AllocError, Global};
 use std::marker::Model;
-
-/// The word of a cell that has its tag.
-const TAG: u32 = 6;
 
 /// A bank whose lines are cells.
 #[derive(Drop)]
@@ -24,31 +26,35 @@ pub struct CellBank {
     bank: Bank,
     state: CellState,
     todo: Todo,
+    stored: FlushList,
 }
 
 impl Model for CellBank {
     ghost use Rattle.incll_var.specs.Cells.{CellBankState, IsCellBank};
+    ghost use Rattle.incll_var.specs.Stored.{KeepsList};
 
     ghost Value = { CellBankState };
 
-    ghost view = { λ a. record { bank = a.bank; state = a.state; todo = a.todo } };
+    ghost view = { λ a. record { bank = a.bank; state = a.state; todo = a.todo; stored = a.stored.lines } };
 
-    ghost invariant = { λ a. IsCellBank (record { bank = a.bank; state = a.state; todo = a.todo }) };
+    ghost invariant = { λ a. IsCellBank (record { bank = a.bank; state = a.state; todo = a.todo; stored = a.stored.lines }) × KeepsList a.bank.lines a.stored };
 }
 
 impl CellBank {
-    /// Cells that are saved at this epoch: nothing is pending on the bank, and no tag is above the epoch. It takes no memory.
-    pub fn clean(alloc: Global, bank: Bank, epoch: u32) -> CellBank
+    /// Cells that are saved at this epoch: nothing is pending on the bank, and no tag is above the epoch. Want of memory is
+    /// its one refusal; the bank is then given up. Where the bank has one line it takes no memory.
+    pub fn clean(alloc: Global, bank: Bank, epoch: u32) -> Result<CellBank, AllocError>
         requires { AreSettled epoch bank.lines }
-        ensures is { result ≡ cells_in (CellState.Saved epoch) bank }
-        ensures cells { IsCellBank result }
+        ensures is { IfOk result (λ cells. cells ≡ cells_in (CellState.Saved epoch) bank) }
+        ensures cells { IfOk result (λ cells. IsCellBank cells) }
     {
-        let _lines = bank.lines();
-        CellBank {
+        let stored = list_for(alloc, &bank)?;
+        Ok(CellBank {
             bank,
             state: CellState::Saved(epoch),
             todo: Todo::nothing(alloc),
-        }
+            stored,
+        })
     }
 
     /// Cells that a power cut in this epoch left: nothing is pending on the bank, and no tag is above the epoch. It makes
@@ -57,7 +63,7 @@ impl CellBank {
         requires { AreSettled epoch bank.lines }
         ensures state { IfOk result (λ cells. cells.state ≡ CellState.Torn epoch) }
         ensures events { IfOk result (λ cells. cells.todo ≡ events_at epoch bank.lines) }
-        ensures held { IfOk result (λ cells. held_at epoch cells.bank ≡ held_at epoch bank) }
+        ensures in_memory { IfOk result (λ cells. memory_words epoch cells.bank ≡ memory_words epoch bank) }
         ensures same { IfOk result (λ cells. HasSameCells bank cells.bank) }
         ensures cells { IfOk result (λ cells. IsCellBank cells) }
     {
@@ -65,10 +71,12 @@ impl CellBank {
         reserve_tagged(&mut bank, epoch)?;
         let tagged = tagged_lines(alloc, &bank, epoch)?;
         let todo = Todo::of(alloc, tagged.as_slice())?;
+        let stored = list_for(alloc, &bank)?;
         Ok(CellBank {
             bank,
             state: CellState::Torn(epoch),
             todo,
+            stored,
         })
     }
 
@@ -107,6 +115,7 @@ impl CellBank {
             bank,
             state: _,
             todo: _,
+            stored: _,
         } = self;
         bank
     }
@@ -118,6 +127,23 @@ impl CellBank {
         ensures { result ≡ bank_load self.now.bank line word }
     {
         self.bank.load(line, word)
+    }
+
+    /// What a word, from 0 to 7, of a line will load when all stores that are left in the plan are made, in order: the value of
+    /// the last of them to this word, or else the word's load. It goes once through the plan.
+    pub fn load_behind(&self, line: u32, word: u32, plan: &Plan) -> u64
+        requires line { line < length self.now.bank.lines }
+        requires word { word < 8 }
+        ensures { result ≡ stored_in (bank_load self.now.bank) plan.now.stores line word }
+    {
+        let mut behind = self.load(line, word);
+        for place in 0..plan.left() {
+            let store = plan.store_at(place);
+            if store.line == line && store.word == word {
+                behind = store.value;
+            }
+        }
+        behind
     }
 
     /// The record of a line by loads.
@@ -147,14 +173,15 @@ impl CellBank {
         ensures cells { IsCellBank self.new }
     {
         let _state = self.state;
+        place_for(&mut self.stored, &self.bank, line)?;
         self.bank.reserve(line, n)
     }
 
     /// Makes room for all stores that are left in the plan, in any state. It refuses for want of memory, and where the
     /// stores of a line would be more than 2^32 - 1. Refused, it may have made some room, and has changed nothing else.
     pub fn ready(&mut self, plan: &Plan) -> Result<(), AllocError>
-        requires { AreInRange self.old.bank.lines plan.now.stores }
-        ensures room { OnOk result (HasRoomFor self.new.bank.lines plan.now.stores) }
+        requires { AreStoresWithin (length self.old.bank.lines) plan.now.stores }
+        ensures room { OnOk result (HasPlacesFor self.new.bank.lines plan.now.stores) }
         ensures is { self.new ≡ record self.old { bank = self.new.bank } }
         ensures same { HasSameCells self.old.bank self.new.bank }
         ensures planned { IsPlanned (epoch_of self.old.state) self.old.bank.lines plan.now.stores → IsPlanned (epoch_of self.old.state) self.new.bank.lines plan.now.stores }
@@ -173,7 +200,7 @@ impl CellBank {
     pub fn enter(&mut self, epoch: u32)
         requires { MayEnter self.old.state epoch }
         ensures is { self.new ≡ with_state self.old (CellState.Running epoch) }
-        ensures begins { IsSaved self.old.state → HasSameRecords (held_at epoch self.new.bank) (bank_load self.new.bank) }
+        ensures begins { IsSaved self.old.state → HasSameRecords (memory_words epoch self.new.bank) (bank_load self.new.bank) }
         ensures cells { IsCellBank self.new }
     {
         self.state = CellState::Running(epoch);
@@ -218,17 +245,18 @@ impl CellBank {
         requires running { IsRunning self.old.state }
         requires left { 0 < length plan.old.stores }
         requires planned { IsPlanned (epoch_of self.old.state) self.old.bank.lines plan.old.stores }
-        requires room { HasRoomFor self.old.bank.lines plan.old.stores }
+        requires room { HasPlacesFor self.old.bank.lines plan.old.stores }
         ensures store { self.new ≡ played self.old plan.old.stores }
         ensures plan { plan.new ≡ plan_behind plan.old }
         ensures planned { IsPlanned (epoch_of self.old.state) self.new.bank.lines plan.new.stores }
-        ensures room { HasRoomFor self.new.bank.lines plan.new.stores }
+        ensures room { HasPlacesFor self.new.bank.lines plan.new.stores }
         ensures behind { stored_in (bank_load self.new.bank) plan.new.stores ≡ stored_in (bank_load self.old.bank) plan.old.stores }
         ensures cells { IsCellBank self.new }
     {
         let first = plan.take_first();
         let _state = self.state;
         self.bank.store(first.line, first.word, first.value);
+        self.stored.mark(first.line);
     }
 
     /// Ends the stores of the epoch, and says how many lines were stored to in it. Where none was, the cells are saved.
@@ -239,52 +267,55 @@ impl CellBank {
         ensures is { self.new ≡ with_state self.old (closing_state result self.old.state) }
         ensures cells { IsCellBank self.new }
     {
-        let count = self.bank.count_pending();
+        let count = self.stored.len();
         self.state = self.state.closing(count);
         count
     }
 
-    /// Writes a line back that was stored to in the epoch and not yet written back, and says whether another is left. Which
-    /// of them it takes is left open.
+    /// Of the lines that were stored to in the epoch and are not yet written back, it writes back the one whose first store
+    /// came first, and says whether another is left. It looks at no other line.
     pub fn close_next(&mut self) -> bool
         requires closing { IsClosing self.old.state }
         requires left { 0 < unasked self.old.bank.lines }
         ensures line { WritesOneBack self.old.bank self.new.bank }
+        ensures first { self.new.bank ≡ bank_written_back self.old.bank (next_in self.old) }
         ensures is { self.new ≡ record self.old { bank = self.new.bank } }
         ensures fewer { unasked self.old.bank.lines ≡ unasked self.new.bank.lines + 1 }
         ensures more { IsTrue result ↔ (0 < unasked self.new.bank.lines) }
         ensures cells { IsCellBank self.new }
     {
-        let line = self.bank.next_unasked();
+        let line = self.stored.next().unwrap();
         self.bank.write_back(line);
-        self.bank.is_any_unasked()
+        !self.stored.is_all_given()
     }
 
     /// Moves all that is pending into memory: the cells are saved. Each cell has at the epoch the triple that it had, and
-    /// memory holds what loads gave and give.
+    /// memory holds what loads gave and give. It looks only at the lines that were stored to.
     pub fn close_fence(&mut self)
         requires closing { IsClosing self.old.state }
         requires asked { unasked self.old.bank.lines ≡ 0 }
-        ensures is { self.new ≡ record self.old { bank = bank_fenced self.old.bank; state = CellState.Saved (epoch_of self.old.state) } }
-        ensures held { held_at (epoch_of self.old.state) self.new.bank ≡ held_at (epoch_of self.old.state) self.old.bank }
+        ensures is { self.new ≡ record self.old { bank = bank_fenced self.old.bank; state = CellState.Saved (epoch_of self.old.state); stored = [] } }
+        ensures in_memory { memory_words (epoch_of self.old.state) self.new.bank ≡ memory_words (epoch_of self.old.state) self.old.bank }
         ensures loads { HasSameRoom (bank_load self.new.bank) (bank_load self.old.bank) }
-        ensures room { KeepsRoom self.old.bank self.new.bank }
+        ensures room { KeepsPlaces self.old.bank self.new.bank }
         ensures cells { IsCellBank self.new }
     {
         self.state = CellState::Saved(self.state.epoch());
         self.bank.fence();
+        self.stored.clear();
     }
 
     /// Does the next event of the restore; where none is left the cells are saved, with the triples of the epoch as their
-    /// loads. On cells that are saved it does nothing. It takes no memory.
+    /// loads. On cells that are saved it does nothing. Behind the call the restore may go on. It takes no memory.
     pub fn restore_next(&mut self) -> RestoreStep
         requires { MayRestore self.old.state }
         ensures step { result ≡ next_step self.old.todo }
         ensures is { self.new ≡ after_next self.old }
-        ensures held { held_at (epoch_of self.old.state) self.new.bank ≡ held_at (epoch_of self.old.state) self.old.bank }
-        ensures room { KeepsRoom self.old.bank self.new.bank }
+        ensures goes_on { MayRestore self.new.state }
+        ensures in_memory { memory_words (epoch_of self.old.state) self.new.bank ≡ memory_words (epoch_of self.old.state) self.old.bank }
+        ensures room { KeepsPlaces self.old.bank self.new.bank }
         ensures restored { IsTorn self.old.state → self.old.todo ≡ [] → AreRestored (epoch_of self.old.state) self.new.bank.lines }
-        ensures loads { IsTorn self.old.state → self.old.todo ≡ [] → HasSameRecords (bank_load self.new.bank) (held_at (epoch_of self.old.state) self.old.bank) }
+        ensures loads { IsTorn self.old.state → self.old.todo ≡ [] → HasSameRecords (bank_load self.new.bank) (memory_words (epoch_of self.old.state) self.old.bank) }
         ensures cells { IsCellBank self.new }
     {
         if self.todo.is_empty() {
@@ -357,4 +388,73 @@ impl CellBank {
             value: epoch,
         });
     }
+}
+
+/// Whether a store is pending on the line or has a place.
+fn has_places(bank: &Bank, line: u32) -> bool
+    requires { line < length bank.now.lines }
+    ensures { result ≡ has_places (line_at bank.now.lines line) }
+{
+    bank.pending(line) > 0 || bank.spare(line) > 0
+}
+
+/// A list with a place for each line that has room for stores. For a bank of one line it takes no memory.
+fn list_for(alloc: Global, bank: &Bank) -> Result<FlushList, AllocError>
+    ensures none { IfOk result (λ list. list.lines ≡ []) }
+    ensures keeps { IfOk result (λ list. KeepsList bank.now.lines list) }
+{
+    let mut list = FlushList::new(alloc);
+    let lines = bank.lines();
+    if lines <= 1 {
+        return Ok(list);
+    }
+    for line in 0..lines {
+        place_at(&mut list, bank, line)?;
+    }
+    Ok(list)
+}
+
+/// Makes a place in the list for a line that has room for stores.
+fn place_at(list: &mut FlushList, bank: &Bank, line: u32) -> Result<(), AllocError>
+    requires { line < length bank.now.lines }
+    ensures place { OnOk result (has_places (line_at bank.now.lines line) ≡ true → list.old.spare < list.new.spare) }
+    ensures same { list.new ≡ record list.old { spare = list.new.spare } }
+    ensures kept { list.old.spare ≤ list.new.spare }
+{
+    if !has_places(bank, line) {
+        return Ok(());
+    }
+    more_places(list)
+}
+
+/// Makes a place in the list for a line that is to have room for stores, where it has none yet. A bank of one line needs none.
+fn place_for(list: &mut FlushList, bank: &Bank, line: u32) -> Result<(), AllocError>
+    requires line { line < length bank.now.lines }
+    requires keeps { KeepsList bank.now.lines list.old }
+    ensures place { OnOk result ((spare : ℕ) → KeepsList (slice_set bank.now.lines line (with_spare (line_at bank.now.lines line) spare)) list.new) }
+    ensures same { list.new ≡ record list.old { spare = list.new.spare } }
+    ensures refused { OnErr result (list.new ≡ list.old) }
+{
+    if bank.lines() <= 1 {
+        return Ok(());
+    }
+    if has_places(bank, line) {
+        return Ok(());
+    }
+    more_places(list)?;
+    Ok(())
+}
+
+/// Makes one more place in the list at least.
+fn more_places(list: &mut FlushList) -> Result<(), AllocError>
+    ensures more { OnOk result (list.old.spare < list.new.spare) }
+    ensures same { list.new ≡ record list.old { spare = list.new.spare } }
+    ensures kept { list.old.spare ≤ list.new.spare }
+    ensures refused { OnErr result (list.new ≡ list.old) }
+{
+    let spare = list.spare();
+    if spare == u32::MAX {
+        return Err(AllocError);
+    }
+    list.reserve(spare + 1)
 }

@@ -28,7 +28,9 @@ mod restore;
 mod state;
 
 pub use cells::CellBank;
-pub use laws::{plan_laws, restore_laws, room_laws, saved_laws, survivor_laws};
+pub use laws::{
+    plan_laws, restore_laws, restore_write_back_laws, room_laws, saved_laws, survivor_laws,
+};
 pub use plan::Plan;
 pub use restore::{RestoreEvent, RestoreStep};
 pub use state::CellState;

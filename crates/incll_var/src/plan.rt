@@ -3,12 +3,13 @@
 
 ghost use Rattle.std.specs.Prelude.{◌≡◌, ◌∷◌, [], ◌<◌, ◌≤◌, length, OnOk, OnErr};
 ghost use Rattle.room_model.specs.Writes.{touches};
-ghost use Rattle.incll_var.specs.Plans.{filled, with_room, plan_behind, cleared, line_in};
+ghost use Rattle.incll_var.specs.Plans.{filled, with_places, plan_behind, cleared, line_in, store_in};
 
 use room_model::PlannedStore;
 use std::alloc::{AllocError, Global};
 use std::collections::VecDeque;
 use std::marker::Model;
+use std::mem;
 
 /// Stores that are planned, in order, and room for more.
 #[derive(Drop)]
@@ -78,9 +79,18 @@ impl Plan {
         self.stores.clear();
     }
 
+    /// Takes the plan out, with its stores and its room, and leaves the empty plan without room. It takes no memory.
+    pub fn take(&mut self) -> Plan
+        ensures plan { result ≡ self.old }
+        ensures empty { self.new ≡ record { stores = []; spare = 0 } }
+    {
+        let empty = Plan::new(*self.stores.allocator());
+        mem::replace(self, empty)
+    }
+
     /// Makes room for `n` more stores than there is room for.
     pub(crate) fn make_room(&mut self, n: u32) -> Result<(), AllocError>
-        ensures ok { OnOk result (self.new ≡ with_room self.old n) }
+        ensures ok { OnOk result (self.new ≡ with_places self.old n) }
         ensures refused { OnErr result (self.new ≡ self.old) }
     {
         let taken = self.stores.len() + self.spare as usize;
@@ -112,6 +122,15 @@ impl Plan {
     {
         let _spare = self.spare;
         self.stores[place as usize].line
+    }
+
+    /// The store of number `place`, counted from 0.
+    pub(crate) fn store_at(&self, place: u32) -> PlannedStore
+        requires { place < length self.now.stores }
+        ensures { result ≡ store_in self.now.stores place }
+    {
+        let _spare = self.spare;
+        self.stores[place as usize]
     }
 
     /// Plans a store behind the others, in the room that was made.

@@ -9,6 +9,7 @@ ghost use Rattle.incll_var.specs.Restore.{tagged_from, restores, asks, restore_e
 ghost use Rattle.incll_var.specs.Restore.{HaveRoomToRestore};
 
 use line_memory::Bank;
+use room_model::TAG;
 use std::alloc::{AllocError, Global};
 use std::marker::Model;
 
@@ -121,7 +122,7 @@ pub(crate) fn tagged_lines(alloc: Global, bank: &Bank, epoch: u32) -> Result<Vec
 {
     let mut tagged = Vec::new(alloc);
     for line in 0..bank.lines() {
-        if bank.base(line)[6] == u64::from(epoch) {
+        if bank.base(line)[TAG as usize] == u64::from(epoch) {
             tagged.push(line)?;
         }
     }
@@ -147,7 +148,7 @@ fn reserve_line(bank: &mut Bank, line: u32, epoch: u32) -> Result<(), AllocError
     ensures same { HasSameCells bank.old bank.new }
     ensures whole { AreLines bank.new.lines }
 {
-    let tag = bank.base(line)[6];
+    let tag = bank.base(line)[TAG as usize];
     let _lines = bank.lines();
     if tag != u64::from(epoch) {
         return Ok(());

@@ -1,34 +1,34 @@
 -- Lists of lives.
 use Rattle.std.proofs.Common.{◌≡◌, ℕ, ◌+◌, ◌<◌, ◌≤◌, ◌==◌, ◌⊎◌, zero, suc, Bool, true, false, List, [], ◌∷◌, ◌++◌, length, take, drop, if◌then◌else◌, refl, sym, ap, ◌∙◌, subst, inl, inr, ⊎_elim, arith, append_assoc, append-nil, eq-eqb}
-use Rattle.std.specs.Prelude.{slice_index}
 use Rattle.std.proofs.lemmas.Bool.{ne_eqb, cases_lt}
 use Rattle.std.proofs.lemmas.List.{get_or_past}
 use Rattle.std.proofs.lemmas.Option.{slice_get_within}
 use Rattle.std.proofs.lemmas.List.Elements.{filter-append}
 use Rattle.seq_object.specs.declared.command.Command.{Command}
 use Rattle.seq_object.specs.declared.history.Entry.{Entry}
-use Rattle.seq_object.specs.Sizes.{Sizes}
 use Rattle.seq_object.specs.Object.{no_contents}
-use Rattle.seq_object.specs.History.{of_thread, contents_at, IsLegal, State, risen_from, after, zeros, first_state, AreCommands}
-use Rattle.seq_object.proofs.Histories.{legal_in_pieces, after_in_pieces, commands_in_pieces, position}
+use Rattle.seq_object.specs.History.{of_thread, contents_at, IsLegal, State, after, first_state, AreCommands, point_at, first_points, Scripts, first_point, points_from}
+use Rattle.seq_object.proofs.Histories.{legal_in_pieces, after_in_pieces, commands_in_pieces, point}
 use Rattle.life_model.specs.declared.life.Life.{Life}
 use Rattle.life_model.specs.declared.life.Life.TheVariants.{Start, Resume}
-use Rattle.room_model.specs.MapRoom.{map_layout}
-use Rattle.room_model.specs.Image.{Image, image_of, epoch_at, Recovers}
-use Rattle.life_model.specs.Life.{Opening, sizes, script_of, opening_place, saved, IsBegun}
+use Rattle.room_model.specs.MapRoom.{live_layout}
+use Rattle.room_model.specs.Image.{ImageRooms, image_of, epoch_at, Recovers}
+use Rattle.life_model.specs.Life.{Opening, sizes, script_of, opening_place, covered, BeginsRightly}
 use Rattle.life_model.specs.Crash.{epoch_after}
-use Rattle.life_model.specs.Lives.{Lived, image_left, kept, IsLife, AreResumed, all_kept, last_image, Holds}
+use Rattle.life_model.specs.Lives.{LivedLife, surviving_image, recovered_history, IsLife, AreResumed, all_recovered, last_image, HasOneHistory}
 use Rattle.life_laws.specs.LivesLaws.{KeptLaw, FirstLifeLaw, NextLifeLaw, LivesLaw}
 use Rattle.life_laws.proofs.States.{one_state}
+use Rattle.seq_object.specs.declared.history.RestartPoint.{RestartPoint}
+use Rattle.seq_object.specs.declared.sizes.Sizes.{Sizes}
 
 -- an image recovers to the state after the prefix that its epoch names
 pub kept_recovers : KeptLaw
 kept_recovers o h marks memory safe choice = elim (safe choice) [
-  | inl a ↦ subst (λ (b : Bool). Recovers map_layout (sizes o) (image_of memory choice)
-      (after (sizes o) o.state (if b then take (saved marks) h else h)))
+  | inl a ↦ subst (λ (b : Bool). Recovers live_layout (sizes o) (image_of memory choice)
+      (after (sizes o) o.state (if b then take (covered marks) h else h)))
       (sym (eq-eqb (epoch_at (sizes o) (image_of memory choice)) (epoch_after o marks) a.epoch)) a.recovers
-  | inr a ↦ subst (λ (b : Bool). Recovers map_layout (sizes o) (image_of memory choice)
-      (after (sizes o) o.state (if b then take (saved marks) h else h)))
+  | inr a ↦ subst (λ (b : Bool). Recovers live_layout (sizes o) (image_of memory choice)
+      (after (sizes o) o.state (if b then take (covered marks) h else h)))
       (sym (ne_eqb (epoch_at (sizes o) (image_of memory choice)) (epoch_after o marks) (λ e. omega (arith, e, a.epoch)))) a.recovers
 ]
 
@@ -44,53 +44,54 @@ by_test true n h = (drop n h, take_drop n h)
 by_test false n h = ([], append-nil h)
 
 -- what is kept of a life is a prefix of its history
-kept_prefix : (l : Lived) → (rest : List Entry) × (kept l ++ rest ≡ l.history)
-kept_prefix l = by_test (epoch_at (sizes l.opening) (image_left l) == epoch_after l.opening l.marks) (saved l.marks) l.history
+kept_prefix : (l : LivedLife) → (rest : List Entry) × (recovered_history l ++ rest ≡ l.history)
+kept_prefix l = by_test (epoch_at (sizes l.opening) (surviving_image l) == epoch_after l.opening l.marks) (covered l.marks) l.history
 
 -- the kept prefix of a legal history is legal
-kept_replies : (l : Lived) → IsLegal (sizes l.opening) l.opening.state.contents l.history
-    → IsLegal (sizes l.opening) l.opening.state.contents (kept l)
+kept_replies : (l : LivedLife) → IsLegal (sizes l.opening) l.opening.state.contents l.history
+    → IsLegal (sizes l.opening) l.opening.state.contents (recovered_history l)
 kept_replies l legal =
     let p = kept_prefix l in
-    ((legal_in_pieces (sizes l.opening) l.opening.state.contents (kept l) p.0).1
+    ((legal_in_pieces (sizes l.opening) l.opening.state.contents (recovered_history l) p.0).1
     (subst (IsLegal (sizes l.opening) l.opening.state.contents) (sym p.1) legal)).0
 
 -- the kept entries of a thread are its commands from the same place on
-kept_commands : (l : Lived) (script : List Command) (place thread : ℕ) → AreCommands script place (of_thread thread l.history)
-    → AreCommands script place (of_thread thread (kept l))
+kept_commands : (l : LivedLife) (script : List Command) (place thread : ℕ) → AreCommands script place (of_thread thread l.history)
+    → AreCommands script place (of_thread thread (recovered_history l))
 kept_commands l script place thread a =
     let p = kept_prefix l in
-    let whole : of_thread thread (kept l) ++ of_thread thread p.0 ≡ of_thread thread l.history =
-    sym (filter-append (λ e. e.thread == thread) (kept l) p.0) ∙ ap (of_thread thread) p.1 in
-    ((commands_in_pieces script place (of_thread thread (kept l)) (of_thread thread p.0)).1 (subst (AreCommands script place) (sym whole) a)).0
+    let whole : of_thread thread (recovered_history l) ++ of_thread thread p.0 ≡ of_thread thread l.history =
+    sym (filter-append (λ e. e.thread == thread) (recovered_history l) p.0) ∙ ap (of_thread thread) p.1 in
+    ((commands_in_pieces script place (of_thread thread (recovered_history l)) (of_thread thread p.0)).1 (subst (AreCommands script place) (sym whole) a)).0
 
--- each of the zeros is 0
-pub zeros_at : (n i : ℕ) → slice_index (zeros n) i ≡ 0
-zeros_at zero i = refl
-zeros_at (suc n) zero = refl
-zeros_at (suc n) (suc i) = zeros_at n i
+-- each of the first restart points is the first one
+pub first_at : (n i : ℕ) → point_at (first_points n) i ≡ first_point
+first_at zero i = refl
+first_at (suc n) zero = refl
+first_at (suc n) (suc i) = first_at n i
 
--- as many zeros as asked for
-pub length-zeros : (n : ℕ) → length (zeros n) ≡ n
-length-zeros zero = refl
-length-zeros (suc n) = ap suc (length-zeros n)
+-- as many first restart points as asked for
+pub length-first : (n : ℕ) → length (first_points n) ≡ n
+length-first zero = refl
+length-first (suc n) = ap suc (length-first n)
 
 -- a start begins in the first state
-begun_at : (life : Life) (o : Opening) (h : List Entry) (marks : List ℕ) → life ≡ Start → IsBegun life o h marks → o.state ≡ first_state (sizes o)
+begun_at : (life : Life) (o : Opening) (h : List Entry) (marks : List ℕ) → life ≡ Start → BeginsRightly (record o { life = life }) h marks
+    → o.state ≡ first_state (sizes o)
 begun_at Start o h marks e b = b.0
 begun_at Resume o h marks e b = absurd (cc)
 
--- without an entry no position rises
-unmoved : (i : ℕ) (ps : List ℕ) → risen_from i ps [] ≡ ps
+-- without an entry no restart point moves
+unmoved : (i : ℕ) (ps : List RestartPoint) → points_from i ps [] ≡ ps
 unmoved i [] = refl
 unmoved i (p ∷ ps) =
-    let here : p + 0 ≡ p = omega arith in
+    let here : p.position + 0 ≡ p.position = omega arith in
     let rest = unmoved (suc i) ps in
-    λ m. here m ∷ rest m
+    λ m. record { position = here m } ∷ rest m
 
 -- a state is the one after no entry
 pub after_nothing : (z : Sizes) (s : State) → s ≡ after z s []
-after_nothing z s = let same = unmoved 0 s.positions in λ m. record { contents = s.contents; positions = sym same m }
+after_nothing z s = let same = unmoved 0 s.points in λ m. record { contents = s.contents; points = sym same m }
 
 -- 0 adds nothing
 nothing_more : (n : ℕ) → 0 + n ≡ n
@@ -102,7 +103,7 @@ no_entries place [] a = refl
 no_entries place (e ∷ es) a = absurd (omega (arith, slice_get_within [] place e.command a.1))
 
 -- a life that begins where a history ends
-module _ (z : Sizes) (scripts : List (List Command)) (h : List Entry) (l : Lived) (life : IsLife z scripts l)
+module _ (z : Sizes) (scripts : Scripts) (h : List Entry) (l : LivedLife) (life : IsLife z scripts l)
     (begins : l.opening.state ≡ after z (first_state z) h)
     (replies : IsLegal z no_contents h) (commands : (thread : ℕ) → AreCommands (script_of scripts thread) 0 (of_thread thread h)) where
   -- there is one script for each thread
@@ -113,50 +114,50 @@ module _ (z : Sizes) (scripts : List (List Command)) (h : List Entry) (l : Lived
   goes_on : (thread : ℕ) → (opening_place l.opening thread ≡ length (of_thread thread h)) ⊎ (script_of scripts thread ≡ [])
   goes_on thread = ⊎_elim
       (λ (lt : thread < z.threads). inl
-      (ap (λ (s : State). slice_index s.positions thread) begins
-      ∙ position z (first_state z) h thread (subst (λ (n : ℕ). thread < n) (sym (length-zeros z.threads)) lt)
-      ∙ ap (λ (n : ℕ). n + length (of_thread thread h)) (zeros_at z.threads thread) ∙ nothing_more (length (of_thread thread h))))
+      (ap (λ (s : State). (point_at s.points thread).position) begins
+      ∙ ap (λ (p : RestartPoint). p.position) (point z (first_state z) h thread (subst (λ (n : ℕ). thread < n) (sym (length-first z.threads)) lt))
+      ∙ ap (λ (p : RestartPoint). p.position + length (of_thread thread h)) (first_at z.threads thread) ∙ nothing_more (length (of_thread thread h))))
       (λ (le : z.threads ≤ thread). inr (get_or_past scripts thread [] (omega (arith, sections, le))))
       (cases_lt thread z.threads)
 
   -- the kept entries of each thread go on where those before ended
-  entries_go_on : (thread : ℕ) → AreCommands (script_of scripts thread) (length (of_thread thread h)) (of_thread thread (kept l))
+  entries_go_on : (thread : ℕ) → AreCommands (script_of scripts thread) (length (of_thread thread h)) (of_thread thread (recovered_history l))
   entries_go_on thread =
-      let own : AreCommands (script_of scripts thread) (opening_place l.opening thread) (of_thread thread (kept l)) =
-      subst (λ (all : List (List Command)). AreCommands (script_of all thread) (opening_place l.opening thread)
-      (of_thread thread (kept l))) life.same_scripts
+      let own : AreCommands (script_of scripts thread) (opening_place l.opening thread) (of_thread thread (recovered_history l)) =
+      subst (λ (all : Scripts). AreCommands (script_of all thread) (opening_place l.opening thread)
+      (of_thread thread (recovered_history l))) life.same_scripts
       (kept_commands l (script_of l.opening.scripts thread) (opening_place l.opening thread) thread (life.legal.order.commands thread)) in
       ⊎_elim
       (λ (e : opening_place l.opening thread ≡ length (of_thread thread h)). subst
-      (λ (place : ℕ). AreCommands (script_of scripts thread) place (of_thread thread (kept l))) e own)
+      (λ (place : ℕ). AreCommands (script_of scripts thread) place (of_thread thread (recovered_history l))) e own)
       (λ (e : script_of scripts thread ≡ []). subst (AreCommands (script_of scripts thread) (length (of_thread thread h)))
-      (sym (no_entries (opening_place l.opening thread) (of_thread thread (kept l))
-      (subst (λ (script : List Command). AreCommands script (opening_place l.opening thread) (of_thread thread (kept l))) e own))) tt)
+      (sym (no_entries (opening_place l.opening thread) (of_thread thread (recovered_history l))
+      (subst (λ (script : List Command). AreCommands script (opening_place l.opening thread) (of_thread thread (recovered_history l))) e own))) tt)
       (goes_on thread)
 
   -- the kept replies are the object's after the history
-  replies_go_on : IsLegal z (contents_at z no_contents h) (kept l)
+  replies_go_on : IsLegal z (contents_at z no_contents h) (recovered_history l)
   replies_go_on =
-      let own : IsLegal z l.opening.state.contents (kept l) =
-      subst (λ (y : Sizes). IsLegal y l.opening.state.contents (kept l)) life.same_sizes (kept_replies l life.legal.replies) in
-      subst (λ (s : State). IsLegal z s.contents (kept l)) begins own
+      let own : IsLegal z l.opening.state.contents (recovered_history l) =
+      subst (λ (y : Sizes). IsLegal y l.opening.state.contents (recovered_history l)) life.same_sizes (kept_replies l life.legal.replies) in
+      subst (λ (s : State). IsLegal z s.contents (recovered_history l)) begins own
 
   -- what is left recovers to the state after both
-  recovers_on : Recovers map_layout z (image_left l) (after z (first_state z) (h ++ kept l))
+  recovers_on : Recovers live_layout z (surviving_image l) (after z (first_state z) (h ++ recovered_history l))
   recovers_on =
-      let own : Recovers map_layout z (image_left l) (after z l.opening.state (kept l)) =
-      subst (λ (y : Sizes). Recovers map_layout y (image_left l) (after y l.opening.state (kept l))) life.same_sizes
+      let own : Recovers live_layout z (surviving_image l) (after z l.opening.state (recovered_history l)) =
+      subst (λ (y : Sizes). Recovers live_layout y (surviving_image l) (after y l.opening.state (recovered_history l))) life.same_sizes
       (kept_recovers l.opening l.history l.marks l.memory life.safe l.choice) in
-      subst (Recovers map_layout z (image_left l)) (ap (λ (s : State). after z s (kept l)) begins
-      ∙ sym (after_in_pieces z (first_state z) h (kept l))) own
+      subst (Recovers live_layout z (surviving_image l)) (ap (λ (s : State). after z s (recovered_history l)) begins
+      ∙ sym (after_in_pieces z (first_state z) h (recovered_history l))) own
 
   -- what is left holds both
-  pub holds_on : Holds z scripts (image_left l) (h ++ kept l)
+  pub holds_on : HasOneHistory z scripts (surviving_image l) (h ++ recovered_history l)
   holds_on = record {
-    replies = (legal_in_pieces z no_contents h (kept l)).0 replies replies_go_on;
-    commands = λ thread. subst (AreCommands (script_of scripts thread) 0) (sym (filter-append (λ e. e.thread == thread) h (kept l)))
-        ((commands_in_pieces (script_of scripts thread) 0 (of_thread thread h) (of_thread thread (kept l))).0 (commands thread)
-        (subst (λ (place : ℕ). AreCommands (script_of scripts thread) place (of_thread thread (kept l))) (omega arith) (entries_go_on thread)));
+    replies = (legal_in_pieces z no_contents h (recovered_history l)).0 replies replies_go_on;
+    commands = λ thread. subst (AreCommands (script_of scripts thread) 0) (sym (filter-append (λ e. e.thread == thread) h (recovered_history l)))
+        ((commands_in_pieces (script_of scripts thread) 0 (of_thread thread h) (of_thread thread (recovered_history l))).0 (commands thread)
+        (subst (λ (place : ℕ). AreCommands (script_of scripts thread) place (of_thread thread (recovered_history l))) (omega arith) (entries_go_on thread)));
     recovers = recovers_on;
   }
 
@@ -169,17 +170,17 @@ first_life z scripts l life start =
 -- a resume goes on from what its image holds, since that recovers to one state
 pub next_life : NextLifeLaw
 next_life z scripts image h l holds life resumes =
-    holds_on z scripts h l life (one_state map_layout z image l.opening.state
+    holds_on z scripts h l life (one_state live_layout z image l.opening.state
     (after z (first_state z) h) resumes.state holds.recovers) holds.replies holds.commands
 
 -- lives that are resumed one after another go on from one another
-resumed : (z : Sizes) (scripts : List (List Command)) (image : Image) (h : List Entry) (ls : List Lived) → Holds z scripts image h
-    → AreResumed z scripts image ls → Holds z scripts (last_image image ls) (h ++ all_kept ls)
-resumed z scripts image h [] holds a = subst (Holds z scripts image) (sym (append-nil h)) holds
+resumed : (z : Sizes) (scripts : Scripts) (image : ImageRooms) (h : List Entry) (ls : List LivedLife) → HasOneHistory z scripts image h
+    → AreResumed z scripts image ls → HasOneHistory z scripts (last_image image ls) (h ++ all_recovered ls)
+resumed z scripts image h [] holds a = subst (HasOneHistory z scripts image) (sym (append-nil h)) holds
 resumed z scripts image h (l ∷ ls) holds a =
-    subst (Holds z scripts (last_image (image_left l) ls)) (append_assoc h (kept l) (all_kept ls))
-    (resumed z scripts (image_left l) (h ++ kept l) ls (next_life z scripts image h l holds a.0 a.1) a.2)
+    subst (HasOneHistory z scripts (last_image (surviving_image l) ls)) (append_assoc h (recovered_history l) (all_recovered ls))
+    (resumed z scripts (surviving_image l) (h ++ recovered_history l) ls (next_life z scripts image h l holds a.0 a.1) a.2)
 
 -- a list of lives is a start, and then resumes
 pub lives : LivesLaw
-lives z scripts first later a = resumed z scripts (image_left first) (kept first) later (first_life z scripts first a.0 a.1) a.2
+lives z scripts first later a = resumed z scripts (surviving_image first) (recovered_history first) later (first_life z scripts first a.0 a.1) a.2

@@ -1,6 +1,6 @@
 -- How lives end, and what is not lost.
 use Rattle.std.proofs.Common.{◌≡◌, ◌≢◌, ℕ, ◌+◌, ◌<◌, ◌≤◌, ◌==◌, ◌⊎◌, zero, suc, cond, Bool, true, false, List, [], ◌∷◌, length, take, get_or, Option, Some, None, if◌then◌else◌, refl, sym, ap, ◌∙◌, subst, inl, inr, ⊎_elim, arith, eq-eqb}
-use Rattle.std.specs.Prelude.{slice_get, slice_index}
+use Rattle.std.specs.Prelude.{slice_get}
 use Rattle.std.proofs.lemmas.Bool.{ne_eqb, cases_lt}
 use Rattle.std.proofs.lemmas.Bool.Decides.{eqb_tells}
 use Rattle.std.proofs.lemmas.List.{get_or_past, length-take-le}
@@ -8,38 +8,39 @@ use Rattle.std.proofs.lemmas.Option.{slice_get_past, slice_get_cases}
 use Rattle.std.proofs.Math.Seq.{take-length}
 use Rattle.seq_object.specs.declared.command.Command.{Command}
 use Rattle.seq_object.specs.declared.history.Entry.{Entry}
-use Rattle.seq_object.specs.Sizes.{Sizes}
-use Rattle.seq_object.specs.History.{of_thread, State, risen_from, after, first_state, AreCommands, total}
-use Rattle.seq_object.proofs.Histories.{position, in_script}
+use Rattle.seq_object.specs.History.{of_thread, State, after, first_state, AreCommands, total, Scripts, point_at}
+use Rattle.seq_object.proofs.Histories.{in_script, point, point_count}
 use Rattle.seq_object.proofs.Totals.{total_none, total-same, total-grown}
 use Rattle.life_model.specs.declared.life.Life.{Life}
 use Rattle.life_model.specs.declared.life.Life.TheVariants.{Start, Resume}
 use Rattle.life_model.specs.declared.life.Outcome.TheVariants.{Finished, Stalled, Cut, Starved}
-use Rattle.room_model.specs.MapRoom.{map_layout}
+use Rattle.room_model.specs.MapRoom.{live_layout}
 use Rattle.room_model.specs.Image.{image_of, epoch_at, Recovers}
-use Rattle.life_model.specs.Life.{Opening, sizes, script_of, place_after, next_command, saved}
-use Rattle.life_model.specs.Ends.{AreUsed, IsAllSaved, IsFinished}
-use Rattle.life_model.specs.Crash.{epoch_after, kept_by}
-use Rattle.life_model.specs.Lives.{Lived, image_left, kept, IsLife, Holds}
+use Rattle.life_model.specs.Life.{Opening, sizes, script_of, place_after, next_command, covered}
+use Rattle.life_model.specs.Ends.{AreUsed, IsAllCovered, IsFinished}
+use Rattle.life_model.specs.Crash.{epoch_after, recovered_prefix}
+use Rattle.life_model.specs.Lives.{LivedLife, surviving_image, recovered_history, IsLife, HasOneHistory}
 use Rattle.life_laws.specs.LivesLaws.{AcknowledgedLaw, AllDoneLaw}
 use Rattle.life_laws.specs.EndLaws.{FinishedOrNotLaw, FinishedEndLaw}
 use Rattle.life_laws.proofs.States.{one_state}
-use Rattle.life_laws.proofs.Chain.{kept_recovers, zeros_at, length-zeros, no_entries}
+use Rattle.life_laws.proofs.Chain.{kept_recovers, first_at, length-first, no_entries}
 use Rattle.life_laws.proofs.Steps.{last_within}
+use Rattle.seq_object.specs.declared.history.RestartPoint.{RestartPoint}
+use Rattle.seq_object.specs.declared.sizes.Sizes.{Sizes}
 
--- either image keeps at least what was saved
+-- either image keeps at least what was covered
 pub acknowledged : AcknowledgedLaw
 acknowledged o h marks memory legal safe choice =
-    let few : saved marks ≤ length h = last_within 0 marks (length h) legal.order.rising in
+    let few : covered marks ≤ length h = last_within 0 marks (length h) legal.order.rising in
     elim (safe choice) [
       | inl a ↦
-          let all : length (kept_by o h marks (epoch_at (sizes o) (image_of memory choice))) ≡ saved marks =
-          ap (λ (b : Bool). length (if b then take (saved marks) h else h))
-          (eq-eqb (epoch_at (sizes o) (image_of memory choice)) (epoch_after o marks) a.epoch) ∙ length-take-le (saved marks) h few in
+          let all : length (recovered_prefix o h marks (epoch_at (sizes o) (image_of memory choice))) ≡ covered marks =
+          ap (λ (b : Bool). length (if b then take (covered marks) h else h))
+          (eq-eqb (epoch_at (sizes o) (image_of memory choice)) (epoch_after o marks) a.epoch) ∙ length-take-le (covered marks) h few in
           (omega (arith, a.epoch), omega (arith, all))
       | inr a ↦
-          let all : length (kept_by o h marks (epoch_at (sizes o) (image_of memory choice))) ≡ length h =
-          ap (λ (b : Bool). length (if b then take (saved marks) h else h))
+          let all : length (recovered_prefix o h marks (epoch_at (sizes o) (image_of memory choice))) ≡ length h =
+          ap (λ (b : Bool). length (if b then take (covered marks) h else h))
           (ne_eqb (epoch_at (sizes o) (image_of memory choice)) (epoch_after o marks) (λ e. omega (arith, e, a.epoch))) in
           (omega (arith, a.epoch), omega (arith, all, few))
     ]
@@ -73,16 +74,16 @@ used_or_not o h = elim (used_below o h (length o.scripts)) [
   | inl below ↦ inl (λ thread. ⊎_elim (below thread) (no_thread o h thread) (cases_lt thread (length o.scripts)))
 ]
 
--- all is saved or it is not
-saved_or_not : (o : Opening) (life : Life) (h : List Entry) (marks : List ℕ) → o.life ≡ life → IsAllSaved o h marks ⊎ (IsAllSaved o h marks → ⊥)
+-- all is covered or it is not
+saved_or_not : (o : Opening) (life : Life) (h : List Entry) (marks : List ℕ) → o.life ≡ life → IsAllCovered o h marks ⊎ (IsAllCovered o h marks → ⊥)
 saved_or_not o Start [] [] e = inl (inr (e, refl, refl))
 saved_or_not o Start (x ∷ h) [] e =
-    inr (⊎_elim (λ (a : ([] ≢ []) × (saved [] ≡ length (x ∷ h))). a.0 refl) (λ (a : (o.life ≡ Start) × (x ∷ h ≡ []) × ([] ≡ [])). absurd (cc (a.1))))
+    inr (⊎_elim (λ (a : ([] ≢ []) × (covered [] ≡ length (x ∷ h))). a.0 refl) (λ (a : (o.life ≡ Start) × (x ∷ h ≡ []) × ([] ≡ [])). absurd (cc (a.1))))
 saved_or_not o Resume h [] e = inr
-    (⊎_elim (λ (a : ([] ≢ []) × (saved [] ≡ length h)). a.0 refl) (λ (a : (o.life ≡ Start) × (h ≡ []) × ([] ≡ [])). absurd (cc (a.0, e))))
-saved_or_not o life h (m ∷ ms) e = elim (eqb_tells (saved (m ∷ ms)) (length h)) [
+    (⊎_elim (λ (a : ([] ≢ []) × (covered [] ≡ length h)). a.0 refl) (λ (a : (o.life ≡ Start) × (h ≡ []) × ([] ≡ [])). absurd (cc (a.0, e))))
+saved_or_not o life h (m ∷ ms) e = elim (eqb_tells (covered (m ∷ ms)) (length h)) [
   | inl s ↦ inl (inl ((λ n. absurd (cc)), s.1))
-  | inr s ↦ inr (⊎_elim (λ (a : (m ∷ ms ≢ []) × (saved (m ∷ ms) ≡ length h)). s.1 a.1)
+  | inr s ↦ inr (⊎_elim (λ (a : (m ∷ ms ≢ []) × (covered (m ∷ ms) ≡ length h)). s.1 a.1)
       (λ (a : (o.life ≡ Start) × (h ≡ []) × (m ∷ ms ≡ [])). absurd (cc (a.2))))
 ]
 
@@ -115,21 +116,16 @@ none_taken zero = refl
 none_taken (suc n) = refl
 
 -- a finished life keeps its whole history
-all_saved_kept : (o : Opening) (h : List Entry) (marks : List ℕ) (epoch : ℕ) → IsAllSaved o h marks → kept_by o h marks epoch ≡ h
+all_saved_kept : (o : Opening) (h : List Entry) (marks : List ℕ) (epoch : ℕ) → IsAllCovered o h marks → recovered_prefix o h marks epoch ≡ h
 all_saved_kept o h marks epoch all = by_test (epoch == epoch_after o marks)
   where
-    whole : take (saved marks) h ≡ h
-    whole = ⊎_elim (λ (a : (marks ≢ []) × (saved marks ≡ length h)). ap (λ (n : ℕ). take n h) a.1 ∙ take-length h)
-        (λ (a : (o.life ≡ Start) × (h ≡ []) × (marks ≡ [])). ap (take (saved marks)) a.1 ∙ none_taken (saved marks) ∙ sym a.1) all
+    whole : take (covered marks) h ≡ h
+    whole = ⊎_elim (λ (a : (marks ≢ []) × (covered marks ≡ length h)). ap (λ (n : ℕ). take n h) a.1 ∙ take-length h)
+        (λ (a : (o.life ≡ Start) × (h ≡ []) × (marks ≡ [])). ap (take (covered marks)) a.1 ∙ none_taken (covered marks) ∙ sym a.1) all
 
-    by_test : (b : Bool) → (if b then take (saved marks) h else h) ≡ h
+    by_test : (b : Bool) → (if b then take (covered marks) h else h) ≡ h
     by_test true = whole
     by_test false = refl
-
--- there are as many positions as before
-length-risen : (i : ℕ) (ps : List ℕ) (h : List Entry) → length (risen_from i ps h) ≡ length ps
-length-risen i [] h = refl
-length-risen i (p ∷ ps) h = ap suc (length-risen (suc i) ps h)
 
 -- where a script has no command its end is passed
 past_script : (script : List Command) (place : ℕ) → slice_get script place ≡ None → length script ≤ place
@@ -163,34 +159,36 @@ count_all n (e ∷ es) none =
     (λ c ne. other_same c e es (λ q. ne (sym q))) in
     omega (arith, rest, grown)
 
-module _ (z : Sizes) (scripts : List (List Command)) (h : List Entry) (l : Lived) (holds : Holds z scripts (image_left l) h)
+module _ (z : Sizes) (scripts : Scripts) (h : List Entry) (l : LivedLife) (holds : HasOneHistory z scripts (surviving_image l) h)
     (life : IsLife z scripts l) (finished : IsFinished l.opening l.history l.marks) where
   -- there is one script for each thread
   sections : length scripts ≡ z.threads
   sections = sym (ap length life.same_scripts) ∙ life.legal.order.threads ∙ ap (λ (y : Sizes). y.threads) life.same_sizes
 
   -- what is left recovers to the state after what was kept
-  recovers_kept : Recovers map_layout z (image_left l) (after z l.opening.state (kept l))
-  recovers_kept = subst (λ (y : Sizes). Recovers map_layout y (image_left l) (after y l.opening.state (kept l))) life.same_sizes
+  recovers_kept : Recovers live_layout z (surviving_image l) (after z l.opening.state (recovered_history l))
+  recovers_kept = subst (λ (y : Sizes). Recovers live_layout y (surviving_image l) (after y l.opening.state (recovered_history l))) life.same_sizes
       (kept_recovers l.opening l.history l.marks l.memory life.safe l.choice)
 
   -- that is the state after the whole history, by both accounts
   one_end : after z (first_state z) h ≡ after z l.opening.state l.history
-  one_end = one_state map_layout z (image_left l) (after z (first_state z) h) (after z l.opening.state (kept l)) holds.recovers recovers_kept
-      ∙ ap (after z l.opening.state) (all_saved_kept l.opening l.history l.marks (epoch_at (sizes l.opening) (image_left l)) finished.1)
+  one_end = one_state live_layout z (surviving_image l) (after z (first_state z) h) (after z l.opening.state (recovered_history l)) holds.recovers recovers_kept
+      ∙ ap (after z l.opening.state) (all_saved_kept l.opening l.history l.marks (epoch_at (sizes l.opening) (surviving_image l)) finished.1)
 
   -- so each thread's entries have come as far as the life's place
   one_place : (thread : ℕ) → thread < z.threads → length (of_thread thread h) ≡ place_after l.opening l.history thread
   one_place thread lt =
-      let whole : slice_index (after z (first_state z) h).positions thread ≡
-      slice_index (first_state z).positions thread + length (of_thread thread h) =
-      position z (first_state z) h thread (subst (λ (n : ℕ). thread < n) (sym (length-zeros z.threads)) lt) in
-      let opened : length l.opening.state.positions ≡ z.threads = sym (length-risen 0 l.opening.state.positions (kept l)) ∙ recovers_kept.threads in
-      let last : slice_index (after z l.opening.state l.history).positions thread ≡ place_after l.opening l.history thread =
-      position z l.opening.state l.history thread (subst (λ (n : ℕ). thread < n) (sym opened) lt) in
-      let same : slice_index (after z (first_state z) h).positions thread ≡ slice_index (after z l.opening.state l.history).positions thread =
-      ap (λ (s : State). slice_index s.positions thread) one_end in
-      omega (arith, whole, last, same, zeros_at z.threads thread)
+      let place : RestartPoint → ℕ = λ p. p.position in
+      let whole : (point_at (after z (first_state z) h).points thread).position ≡
+      (point_at (first_state z).points thread).position + length (of_thread thread h) =
+      ap place (point z (first_state z) h thread (subst (λ (n : ℕ). thread < n) (sym (length-first z.threads)) lt)) in
+      let opened : length l.opening.state.points ≡ z.threads = sym (point_count z l.opening.state (recovered_history l)) ∙ recovers_kept.threads in
+      let last : (point_at (after z l.opening.state l.history).points thread).position ≡ place_after l.opening l.history thread =
+      ap place (point z l.opening.state l.history thread (subst (λ (n : ℕ). thread < n) (sym opened) lt)) in
+      let same : (point_at (after z (first_state z) h).points thread).position ≡ (point_at (after z l.opening.state l.history).points thread).position =
+      ap (λ (s : State). (point_at s.points thread).position) one_end in
+      let first : (point_at (first_state z).points thread).position ≡ 0 = ap place (first_at z.threads thread) in
+      omega (arith, whole, last, same, first)
 
   -- each thread has carried out its whole script
   thread_done : (thread : ℕ) → length (of_thread thread h) ≡ length (script_of scripts thread)
@@ -199,7 +197,7 @@ module _ (z : Sizes) (scripts : List (List Command)) (h : List Entry) (l : Lived
       let most : 0 + length (of_thread thread h) ≤ length (script_of scripts thread) =
       in_script (script_of scripts thread) 0 (of_thread thread h) (holds.commands thread) (omega arith) in
       let used : slice_get (script_of scripts thread) (place_after l.opening l.history thread) ≡ None =
-      subst (λ (all : List (List Command)). slice_get (script_of all thread) (place_after l.opening l.history thread) ≡ None) life.same_scripts
+      subst (λ (all : Scripts). slice_get (script_of all thread) (place_after l.opening l.history thread) ≡ None) life.same_scripts
       (finished.0 thread) in
       let least : length (script_of scripts thread) ≤ place_after l.opening l.history thread =
       past_script (script_of scripts thread) (place_after l.opening l.history thread) used in

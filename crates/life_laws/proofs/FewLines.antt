@@ -8,15 +8,15 @@ use Rattle.std.proofs.lemmas.Bool.Decides.{eqb_tells, nat_tests}
 use Rattle.std.proofs.lemmas.Grind.{common_steps}
 use Rattle.seq_object.specs.declared.command.Command.{Command}
 use Rattle.seq_object.specs.declared.command.Command.TheVariants.{Put, Get, Del, Enq, Deq, Take}
-use Rattle.seq_object.specs.Sizes.{Sizes}
 use Rattle.seq_object.specs.Object.{room_of}
-use Rattle.line_memory.specs.Line.{LineState, BankState, AreLines, IsLine, no_line, line_at, stored, bank_stored, is_unasked, unasked}
+use Rattle.line_memory.specs.Line.{LineState, BankState, AreLines, IsLine, no_line, line_at, stored, bank_stored, is_unasked, unasked, is_unasked_in}
 use Rattle.room_model.specs.declared.write.Write.{Write}
 use Rattle.room_model.specs.declared.write.PlannedStore.{PlannedStore}
 use Rattle.room_model.specs.Chains.{RoomWords}
-use Rattle.room_model.specs.MapRoom.{MapLayout, bucket_of}
-use Rattle.room_model.specs.Writes.{write, writes_of, store, touches, write_stores, stores_behind, taken_line, is_full, take_write, give_writes, node_of, node_before, put_absent, put_present, put_writes, unlink_write, del_present, del_writes, enq_writes, deq_writes}
-use Rattle.life_laws.specs.WorkLaws.{newly_pending, is_unasked_in, FewLinesLaw, NewlyPendingLaw}
+use Rattle.room_model.specs.MapRoom.{Layout, bucket_of}
+use Rattle.room_model.specs.Writes.{write, writes_of, store, touches, write_stores, stores_behind, taken_line, is_full, take_write, give_writes, node_of, node_before, put_absent, put_present, put_writes, unlink_write, del_present, del_writes, enq_writes, deq_writes, newly_pending}
+use Rattle.life_laws.specs.WorkLaws.{FewLinesLaw, NewlyPendingLaw}
+use Rattle.seq_object.specs.declared.sizes.Sizes.{Sizes}
 
 -- one where a line is new, and none where it was pending before
 abbrev new_one : Bool → ℕ
@@ -200,8 +200,8 @@ take_line r = go (r 0 0 == 0)
     go false = refl
 
 -- a put
-put_few : (layout : MapLayout) (z : Sizes) (r : RoomWords) (key value : ℕ) → AreFew (put_writes layout z r key value)
-put_few layout z r key value = go (node_of layout z r key == 0) (is_full z r)
+put_few : (layout : Layout) (z : Sizes) (r : RoomWords) (key value : ℕ) → AreFew (put_writes layout z r key value)
+put_few layout z r key value = go (node_of layout z r key == 0) (is_full z.lines r)
   where
     go : (absent full : Bool)
         → AreFew (if absent then (if full then [] else put_absent layout z r key value) else put_present (node_of layout z r key) value)
@@ -213,7 +213,7 @@ put_few layout z r key value = go (node_of layout z r key == 0) (is_full z r)
     go false full = λ pending. let first = any (pending (node_of layout z r key)) in omega (arith, first)
 
 -- a removal
-del_few : (layout : MapLayout) (z : Sizes) (r : RoomWords) (key : ℕ) → AreFew (del_writes layout z r key)
+del_few : (layout : Layout) (z : Sizes) (r : RoomWords) (key : ℕ) → AreFew (del_writes layout z r key)
 del_few layout z r key = go (node_of layout z r key == 0)
   where
     go : (absent : Bool)
@@ -225,7 +225,7 @@ del_few layout z r key = go (node_of layout z r key == 0)
 
 -- an item at the back
 enq_few : (z : Sizes) (r : RoomWords) (value : ℕ) → AreFew (enq_writes z r value)
-enq_few z r value = go (is_full z r) (r 1 0 == 0)
+enq_few z r value = go (is_full z.lines r) (r 1 0 == 0)
   where
     n : ℕ
     n = taken_line r
@@ -251,7 +251,7 @@ deq_few r = go (r 1 0 == 0) (r (r 1 0) 1 == 0)
     go false false = λ pending. del_lines pending 1 (r 1 0) 0
 
 -- the writes of a command
-writes_few : (layout : MapLayout) (z : Sizes) (r : RoomWords) (command : Command) → AreFew (writes_of layout z r command)
+writes_few : (layout : Layout) (z : Sizes) (r : RoomWords) (command : Command) → AreFew (writes_of layout z r command)
 writes_few layout z r (Put key value) = put_few layout z r key value
 writes_few layout z r (Get key) = none_few
 writes_few layout z r (Del key) = del_few layout z r key

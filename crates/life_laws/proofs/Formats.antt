@@ -6,25 +6,26 @@ use Rattle.std.proofs.lemmas.Bool.Decides.{nat_tests}
 use Rattle.std.proofs.lemmas.List.{get_or_past}
 use Rattle.std.specs.Ordering.{nat_cmp}
 use Rattle.std.specs.FinMap.{empty, get, get-empty}
-use Rattle.seq_object.specs.Sizes.{Sizes, AreValid}
+use Rattle.seq_object.specs.Sizes.{AreValid, thread_room, super_room, line_count}
 use Rattle.seq_object.specs.Object.{no_contents, shard_of, shard_pairs}
 use Rattle.seq_object.specs.History.{first_state, total}
 use Rattle.seq_object.proofs.Pairs.{got_kept}
 use Rattle.seq_object.proofs.Totals.{total_none}
 use Rattle.room_model.specs.Cell.{tag_of, record_of, backup_of}
 use Rattle.room_model.specs.Chains.{is_node}
-use Rattle.room_model.specs.MapRoom.{MapLayout, IsMapLayout, map_layout, head, IsMapRoom}
+use Rattle.room_model.specs.MapRoom.{Layout, IsLayout, live_layout, head, IsMapRoom}
 use Rattle.room_model.specs.QueueRoom.{IsQueueRoom}
-use Rattle.room_model.specs.Rooms.{thread_room, super_room, line_count, StandsFor}
+use Rattle.room_model.specs.Rooms.{StandsFor}
 use Rattle.room_model.specs.Formatted.{formatted, first_node}
-use Rattle.room_model.specs.Image.{Image, image_of, nothing_kept, lines_at, words_at, epoch_at, recovered_room, Recovers, IsFormatted}
+use Rattle.room_model.specs.Image.{ImageRooms, image_of, nothing_kept, lines_at, words_at, epoch_at, recovered_room, Recovers, IsFormatted}
 use Rattle.life_model.specs.Life.{Opening, sizes}
-use Rattle.life_model.specs.Crash.{LeavesSaved}
+use Rattle.life_model.specs.Crash.{LeavesCovered}
 use Rattle.life_laws.specs.ImageLaws.{FormattedLaw}
 use Rattle.life_laws.specs.LifeLaws.{StartSafeLaw, ResumeSafeLaw}
-use Rattle.life_laws.proofs.Chain.{zeros_at, length-zeros, after_nothing}
-use Rattle.life_laws.proofs.Words.{record_words}
+use Rattle.life_laws.proofs.Chain.{first_at, length-first, after_nothing}
+use Rattle.room_laws.proofs.Words.{words}
 use Rattle.life_laws.proofs.Safe.{first_three, quiet_safe}
+use Rattle.seq_object.specs.declared.sizes.Sizes.{Sizes}
 
 -- no value
 abbrev no_value : Option ℕ
@@ -53,11 +54,11 @@ pub past_header : (first line w : ℕ) → 0 < line → formatted first line w �
 past_header first line w lt = ap (λ (b : Bool). if b && (w == 1) then first else 0) (ne_eqb line 0 (λ e. omega (arith, e)))
 
 -- no bucket of a formatted room has a node
-no_head : (layout : MapLayout) → IsMapLayout layout → (b : ℕ) → b < 8 → head layout (formatted layout.first) b ≡ 0
+no_head : (layout : Layout) → IsLayout layout → (b : ℕ) → b < 8 → head layout (formatted layout.first) b ≡ 0
 no_head layout is b lt = past_header layout.first (layout.head_line b) (layout.head_word b) (is.low b lt)
 
 -- a formatted map room stands for no pair
-pub empty_map : (layout : MapLayout) → IsMapLayout layout → (z : Sizes) (shard : ℕ) → layout.first ≤ z.lines
+pub empty_map : (layout : Layout) → IsLayout layout → (z : Sizes) (shard : ℕ) → layout.first ≤ z.lines
     → IsMapRoom layout z shard (formatted layout.first) (shard_pairs z shard empty)
 empty_map layout is z shard fits = record {
   chain = λ b. [];
@@ -88,7 +89,7 @@ empty_queue z some = record {
 }
 
 -- a formatted room stands for nothing
-pub empty_stands : (layout : MapLayout) → IsMapLayout layout → (z : Sizes) (room : ℕ) → layout.first ≤ z.lines → 16 ≤ z.lines
+pub empty_stands : (layout : Layout) → IsLayout layout → (z : Sizes) (room : ℕ) → layout.first ≤ z.lines → 16 ≤ z.lines
     → StandsFor layout z room (formatted (first_node layout z room)) no_contents
 empty_stands layout is z room fits some = by_test (room == z.shards)
   where
@@ -97,7 +98,7 @@ empty_stands layout is z room fits some = by_test (room == z.shards)
     by_test true = empty_queue z some
     by_test false = empty_map layout is z room fits
 
-module _ (layout : MapLayout) (is : IsMapLayout layout) (z : Sizes) (fits : layout.first ≤ z.lines) (image : Image) (valid : AreValid z)
+module _ (layout : Layout) (is : IsLayout layout) (z : Sizes) (fits : layout.first ≤ z.lines) (image : ImageRooms) (valid : AreValid z)
     (f : IsFormatted layout z image) where
   -- each room has a line
   some_line : (room : ℕ) → 0 < line_count z room
@@ -169,12 +170,12 @@ module _ (layout : MapLayout) (is : IsMapLayout layout) (z : Sizes) (fits : layo
     epoch = omega (arith, first_epoch);
     epoch_fits = omega (arith, first_epoch);
     tags = λ room line lt inside. omega (arith, no_tag room line lt);
-    rooms = λ room le. record_words layout z room (formatted (first_node layout z room)) (recovered_room z image room) no_contents is
-        (λ line w few. as_formatted room line w le few) (empty_stands layout is z room fits valid.some_lines);
-    threads = length-zeros z.threads;
-    positions = λ thread lt. zeros_at z.threads thread
-        ∙ sym (recovered_word (thread_room z thread) 0 0 (omega arith) (omega arith)
-        ∙ word_none (thread_room z thread) 0 0 (omega arith) (omega arith) refl);
+    rooms = λ room le. words layout z room (formatted (first_node layout z room)) (recovered_room z image room) no_contents is
+        (empty_stands layout is z room fits valid.some_lines) (λ line w few. sym (as_formatted room line w le few));
+    threads = length-first z.threads;
+    points = λ thread lt. first_at z.threads thread
+        ∙ ap (λ (n : ℕ). record { position = n }) (sym (recovered_word (thread_room z thread) 0 0 (omega arith) (omega arith)
+        ∙ word_none (thread_room z thread) 0 0 (omega arith) (omega arith) refl));
   }
 
 -- both facts of a formatted image
@@ -182,7 +183,7 @@ pub formatted_recovers : FormattedLaw
 formatted_recovers layout z image is fits valid f = (first_epoch layout is z fits image valid f, recovers_first layout is z fits image valid f)
 
 -- the layout in use is one
-pub layout_in_use : IsMapLayout map_layout
+pub layout_in_use : IsLayout live_layout
 layout_in_use = record {
   low = λ b lt. omega arith;
   high = λ b lt. omega arith;
@@ -191,21 +192,21 @@ layout_in_use = record {
 }
 
 -- a life before its first event leaves its image as it is
-opened : (o : Opening) (image : Image) → epoch_at (sizes o) image ≡ o.epoch → Recovers map_layout (sizes o) image o.state → LeavesSaved o [] [] image
+opened : (o : Opening) (image : ImageRooms) → epoch_at (sizes o) image ≡ o.epoch → Recovers live_layout (sizes o) image o.state → LeavesCovered o [] [] image
 opened o image epoch recovers = record {
   epoch = omega (arith, epoch);
   recovers =
-      subst (Recovers map_layout (sizes o) image) (after_nothing (sizes o) o.state) recovers;
+      subst (Recovers live_layout (sizes o) image) (after_nothing (sizes o) o.state) recovers;
 }
 
 -- the formatted image recovers to the state in which a start begins
 pub start_safe : StartSafeLaw
 start_safe o memory valid quiet is state epoch =
     let few = valid.some_lines in
-    let first = formatted_recovers map_layout (sizes o) (image_of memory nothing_kept) layout_in_use (omega arith) valid is in
+    let first = formatted_recovers live_layout (sizes o) (image_of memory nothing_kept) layout_in_use (omega arith) valid is in
     quiet_safe o [] [] memory quiet
     (opened o (image_of memory nothing_kept) (first.0 ∙ sym epoch)
-    (subst (Recovers map_layout (sizes o) (image_of memory nothing_kept)) (sym state) first.1))
+    (subst (Recovers live_layout (sizes o) (image_of memory nothing_kept)) (sym state) first.1))
 
 -- the image recovers to the state in which the resume begins
 pub resume_safe : ResumeSafeLaw

@@ -3,7 +3,7 @@ pub mod Chain
 pub mod Steps
 pub mod Survivors
 pub mod Endings
-pub mod Words
+pub mod Parts
 pub mod Safe
 pub mod Formats
 pub mod Works
@@ -11,8 +11,13 @@ pub mod FewLines
 pub mod Ended
 pub mod Tried
 pub mod TriedEnds
-pub mod Played
+pub mod Stored
 pub mod Memories
 pub mod TriedCuts
+pub mod TriedCounts
 pub mod TriedPresent
 pub mod TriedImages
+pub mod TriedStands
+pub mod TriedRooms
+pub mod TriedLives
+pub mod TriedReports

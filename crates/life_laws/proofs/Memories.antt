@@ -1,29 +1,30 @@
 -- The memories that were worked out by hand stand at their epochs for their states.
 use Rattle.std.proofs.Common.{◌≡◌, ◌≢◌, ℕ, ◌+◌, ◌<◌, ◌≤◌, ◌==◌, ◌&&◌, zero, suc, Bool, true, false, cond, List, [], ◌∷◌, length, Option, Some, None, if◌then◌else◌, refl, sym, ap, ◌∙◌, subst, inl, inr, ⊎_elim, arith, eq-eqb}
-use Rattle.std.specs.Prelude.{slice_index, nat_le}
+use Rattle.std.specs.Prelude.{nat_le}
 use Rattle.std.specs.Ordering.{nat_cmp}
 use Rattle.std.specs.FinMap.{empty, get, insert, len, get-empty, len-empty}
 use Rattle.std.proofs.lemmas.Bool.{ne_eqb, cases_lt}
 use Rattle.std.proofs.lemmas.Bool.Decides.{eqb_tells, nat_tests}
 use Rattle.std.proofs.lemmas.List.{get_or_past}
 use Rattle.seq_object.specs.declared.command.Reply.TheVariants.{New}
-use Rattle.seq_object.specs.Sizes.{AreValid}
+use Rattle.seq_object.specs.Sizes.{AreValid, line_count}
 use Rattle.seq_object.specs.Object.{Pairs, no_contents, shard_of, shard_pairs, is_shard_full, put_reply, put_pairs}
-use Rattle.seq_object.specs.History.{first_state, after, total}
+use Rattle.seq_object.specs.History.{first_state, after, total, point_at}
 use Rattle.seq_object.proofs.Pairs.{one_map, got_put, got_key}
 use Rattle.seq_object.proofs.Totals.{total_none, total-same}
 use Rattle.line_memory.specs.declared.store.Store.{Store}
-use Rattle.line_memory.specs.Line.{LineState, left, no_line, line_at, bank_at, line_of, load_of, IsQuiet}
+use Rattle.line_memory.specs.Line.{LineState, survivor, no_line, line_at, bank_at, line_of, load_of, IsQuiet}
 use Rattle.room_model.specs.Cell.{tag_of, triple_of}
 use Rattle.room_model.specs.Chains.{RoomWords, IsChain, times, is_node}
-use Rattle.room_model.specs.MapRoom.{map_layout, bucket_of, found, AreKeys, IsMapRoom}
+use Rattle.room_model.specs.MapRoom.{live_layout, bucket_of, found, AreKeys, IsMapRoom}
 use Rattle.room_model.specs.QueueRoom.{IsQueueRoom}
-use Rattle.room_model.specs.Rooms.{line_count, StandsFor}
-use Rattle.room_model.specs.Image.{base_room, StandsAt}
-use Rattle.life_laws.specs.CutExamples.{small, put_done, put_state, epoch_line, closed_with}
+use Rattle.room_model.specs.Rooms.{StandsFor, point_in}
+use Rattle.room_model.specs.Image.{StandsAt}
+use Rattle.life_laws.specs.CutExamples.{small, put_done, put_state, line_of_epoch, closed_with}
 use Rattle.life_laws.proofs.Survivors.{quiet_left}
 use Rattle.life_laws.proofs.Safe.{next_epoch}
 use Rattle.life_laws.proofs.Formats.{no_pairs, same_none, no_node, layout_in_use}
+use Rattle.room_model.specs.Banks.{memory_words}
 
 -- what holds of each bucket's number
 pub below_eight : (P : ℕ → Type 0) → P 0 → P 1 → P 2 → P 3 → P 4 → P 5 → P 6 → P 7 → (b : ℕ) → b < 8 → P b
@@ -39,7 +40,7 @@ below_eight P p0 p1 p2 p3 p4 p5 p6 p7 (suc (suc (suc (suc (suc (suc (suc (suc b)
 
 -- a map room without a node, by its header and heads
 pub no_nodes : (r : RoomWords) → r 0 0 ≡ 0 → r 0 1 ≡ 9 → r 0 2 ≡ 0 → ((b : ℕ) → b < 8 → r (b + 1) 0 ≡ 0)
-    → IsMapRoom map_layout small 0 r (shard_pairs small 0 empty)
+    → IsMapRoom live_layout small 0 r (shard_pairs small 0 empty)
 no_nodes r free fresh count heads = record {
   chain = λ b. [];
   free = [];
@@ -69,13 +70,13 @@ no_items r free fresh count first last = record {
 }
 
 -- a chain from 0 has no line
-chain_none : (next : ℕ → ℕ) (start : ℕ) (xs : List ℕ) → IsChain next start xs → start ≡ 0 → xs ≡ []
+pub chain_none : (next : ℕ → ℕ) (start : ℕ) (xs : List ℕ) → IsChain next start xs → start ≡ 0 → xs ≡ []
 chain_none next start [] c e = refl
 chain_none next start (x ∷ xs) c e = absurd (c.1 (sym c.0 ∙ e))
 
 -- a room whose fresh line was moved and whose new line is in no chain stands for no map
 pub broken : (r : RoomWords) (pairs : Pairs) → r 0 0 ≡ 0 → r 0 1 ≡ 10 → ((b : ℕ) → b < 8 → r (b + 1) 0 ≡ 0)
-    → IsMapRoom map_layout small 0 r pairs → ⊥
+    → IsMapRoom live_layout small 0 r pairs → ⊥
 broken r pairs free fresh heads a =
     let chained : total (λ b. times 9 (a.chain b)) 8 ≡ 0 =
     total-same (λ b. 0) (λ b. times 9 (a.chain b)) 8
@@ -118,11 +119,11 @@ one_of_nine x = elim (eqb_tells 9 x) [
 ]
 
 -- each key is of the one shard
-one_shard : (key : ℕ) → shard_of small key ≡ 0
+pub one_shard : (key : ℕ) → shard_of small key ≡ 0
 one_shard key = omega arith
 
 -- the value of a key in the map of one pair
-got_five : (key : ℕ) → get (insert (empty {X = ℕ} {R = nat_cmp}) 5 7) key ≡ (if key == 5 then Some 7 else None)
+pub got_five : (key : ℕ) → get (insert (empty {X = ℕ} {R = nat_cmp}) 5 7) key ≡ (if key == 5 then Some 7 else None)
 got_five key = got_put empty 5 7 key ∙ ap (λ (o : Option ℕ). cond (key == 5) (Some 7) o) (get-empty nat_cmp key)
 
 -- no value
@@ -151,7 +152,7 @@ one_key line b lt = elim (eqb_tells b 5) [
 ]
 
 -- by loads the map room stands for the one pair
-pub one_pair : (line : LineState) → IsMapRoom map_layout small 0 (load_of (closed_with line) 0) (shard_pairs small 0 (insert empty 5 7))
+pub one_pair : (line : LineState) → IsMapRoom live_layout small 0 (load_of (closed_with line) 0) (shard_pairs small 0 (insert empty 5 7))
 one_pair line = record {
   chain = one_chain;
   free = [];
@@ -171,16 +172,16 @@ one_pair line = record {
 -- cells
 
 -- a line of eight words with nothing pending, and with a tag of at most 1
-abbrev is_cell : LineState → Bool
+abbrev pub is_cell : LineState → Bool
 is_cell l = (length l.pending == 0) && ((length l.base == 8) && nat_le (tag_of l.base) 1)
 
 -- whether each of these lines is such a one
-abbrev are_cells : List LineState → Bool
+abbrev pub are_cells : List LineState → Bool
 are_cells [] = true
 are_cells (l ∷ ls) = is_cell l && are_cells ls
 
 -- then each of them is
-cell_at : (ls : List LineState) (k : ℕ) → are_cells ls ≡ true → k < length ls → is_cell (line_at ls k) ≡ true
+pub cell_at : (ls : List LineState) (k : ℕ) → are_cells ls ≡ true → k < length ls → is_cell (line_at ls k) ≡ true
 cell_at [] k all lt = absurd (omega arith)
 cell_at (l ∷ ls) zero all lt = and_first (is_cell l) (are_cells ls) all
   where
@@ -204,7 +205,7 @@ pub record IsQuietCell (l : LineState) : Type 0 where
   pub tag : tag_of l.base ≤ 1
 
 -- what the test says
-quiet_cell : (l : LineState) → is_cell l ≡ true → IsQuietCell l
+pub quiet_cell : (l : LineState) → is_cell l ≡ true → IsQuietCell l
 quiet_cell l e = record {
   pending = empty_list l.pending (grind (arith, nat_tests));
   eight = grind (arith, nat_tests);
@@ -238,10 +239,10 @@ none_pending line room i lt = ⊎_elim
     (cases_lt i (line_count small room))
 
 -- nothing is pending at all where the super room's line has its epoch in memory
-pub quiet_all : (epoch : ℕ) → IsQuiet (closed_with (epoch_line epoch))
-quiet_all epoch room i = ⊎_elim (λ (lt : room < 3). none_pending (epoch_line epoch) room i lt) (λ (le : 3 ≤ room). above room i le) (cases_lt room 3)
+pub quiet_all : (epoch : ℕ) → IsQuiet (closed_with (line_of_epoch epoch))
+quiet_all epoch room i = ⊎_elim (λ (lt : room < 3). none_pending (line_of_epoch epoch) room i lt) (λ (le : 3 ≤ room). above room i le) (cases_lt room 3)
   where
-    above : (room i : ℕ) → 3 ≤ room → (line_of (closed_with (epoch_line epoch)) room i).pending ≡ []
+    above : (room i : ℕ) → 3 ≤ room → (line_of (closed_with (line_of_epoch epoch)) room i).pending ≡ []
     above zero i le = absurd (omega arith)
     above (suc zero) i le = absurd (omega arith)
     above (suc (suc zero)) i le = absurd (omega arith)
@@ -262,18 +263,17 @@ small_valid = record {
 }
 
 -- the cells stand at epoch 1 for the state before the put
-pub stands_first : (line : LineState) → ((kept : ℕ) → length (left line kept) ≡ 8)
-    → StandsAt map_layout small 1 (closed_with line) (first_state small)
+pub stands_first : (line : LineState) → ((kept : ℕ) → length (survivor line kept) ≡ 8)
+    → StandsAt live_layout small 1 (closed_with line) (first_state small)
 stands_first line eight = record {
   valid = small_valid;
   some = omega arith;
   fits = omega arith;
-  rooms = refl;
-  lines = line_counts line;
+  rooms = record { rooms = refl; lines = line_counts line };
   super_words = eight;
   cells = λ room i lt inside kept.
       let cell = quiet_cells line room i lt inside in
-      let same : left (line_of (closed_with line) room i) kept ≡ (line_of (closed_with line) room i).base =
+      let same : survivor (line_of (closed_with line) room i) kept ≡ (line_of (closed_with line) room i).base =
       quiet_left (line_of (closed_with line) room i) kept cell.pending in
       record {
         eight = ap length same ∙ cell.eight;
@@ -282,40 +282,52 @@ stands_first line eight = record {
       };
   stands = stands;
   threads = refl;
-  positions = positions;
+  points = points;
 }
   where
-    stands : (room : ℕ) → room ≤ 1 → StandsFor map_layout small room (base_room 1 (closed_with line) room) no_contents
-    stands zero le = no_nodes (base_room 1 (closed_with line) 0) refl refl refl
-        (below_eight (λ b. base_room 1 (closed_with line) 0 (b + 1) 0 ≡ 0) refl refl refl refl refl refl refl refl)
-    stands (suc zero) le = no_items (base_room 1 (closed_with line) 1) refl refl refl refl refl
+    stands : (room : ℕ) → room ≤ 1 → StandsFor live_layout small room (memory_words 1 (bank_at (closed_with line) room)) no_contents
+    stands zero le = no_nodes (memory_words 1 (bank_at (closed_with line) 0)) refl refl refl
+        (below_eight (λ b. memory_words 1 (bank_at (closed_with line) 0) (b + 1) 0 ≡ 0) refl refl refl refl refl refl refl refl)
+    stands (suc zero) le = no_items (memory_words 1 (bank_at (closed_with line) 1)) refl refl refl refl refl
     stands (suc (suc room)) le = absurd (omega arith)
 
-    positions : (thread : ℕ) → thread < 1 → slice_index (first_state small).positions thread ≡ base_room 1 (closed_with line) (1 + 1 + thread) 0 0
-    positions zero lt = refl
-    positions (suc thread) lt = absurd (omega arith)
+    points : (thread : ℕ) → thread < 1
+        → point_at (first_state small).points thread ≡ point_in live_layout (memory_words 1 (bank_at (closed_with line) (1 + 1 + thread)))
+    points zero lt = refl
+    points (suc thread) lt = absurd (omega arith)
 
 -- the loads of the rooms stand for the state after the put
-pub loads_stand : (line : LineState) (room : ℕ) → room ≤ 1 → StandsFor map_layout small room (load_of (closed_with line) room) put_state.contents
+pub loads_stand : (line : LineState) (room : ℕ) → room ≤ 1 → StandsFor live_layout small room (load_of (closed_with line) room) put_state.contents
 loads_stand line zero le = one_pair line
 loads_stand line (suc zero) le = no_items (load_of (closed_with line) 1) refl refl refl refl refl
 loads_stand line (suc (suc room)) le = absurd (omega arith)
 
 -- the cells stand at epoch 2 for it
-pub stands_next : (line : LineState) → ((kept : ℕ) → length (left line kept) ≡ 8) → StandsAt map_layout small 2 (closed_with line) put_state
+pub stands_next : (line : LineState) → ((kept : ℕ) → length (survivor line kept) ≡ 8) → StandsAt live_layout small 2 (closed_with line) put_state
 stands_next line eight =
-    next_epoch map_layout small 1 (closed_with line) (first_state small) put_state layout_in_use (stands_first line eight) (omega arith)
+    next_epoch live_layout small 1 (closed_with line) (first_state small) put_state layout_in_use (stands_first line eight) (omega arith)
     (λ room i lt. none_pending line room i lt)
-    (loads_stand line) refl positions
+    (loads_stand line) refl points
   where
-    positions : (thread : ℕ) → thread < 1 → slice_index put_state.positions thread ≡ load_of (closed_with line) (1 + 1 + thread) 0 0
-    positions zero lt = refl
-    positions (suc thread) lt = absurd (omega arith)
+    points : (thread : ℕ) → thread < 1 → point_at put_state.points thread ≡ point_in live_layout (load_of (closed_with line) (1 + 1 + thread))
+    points zero lt = refl
+    points (suc thread) lt = absurd (omega arith)
+
+-- and at epoch 3
+pub stands_third : (line : LineState) → ((kept : ℕ) → length (survivor line kept) ≡ 8) → StandsAt live_layout small 3 (closed_with line) put_state
+stands_third line eight =
+    next_epoch live_layout small 2 (closed_with line) put_state put_state layout_in_use (stands_next line eight) (omega arith)
+    (λ room i lt. none_pending line room i lt)
+    (loads_stand line) refl points
+  where
+    points : (thread : ℕ) → thread < 1 → point_at put_state.points thread ≡ point_in live_layout (load_of (closed_with line) (1 + 1 + thread))
+    points zero lt = refl
+    points (suc thread) lt = absurd (omega arith)
 
 -- the object
 
 -- a shard of the empty map is the empty map
-no_shard_pairs : shard_pairs small 0 empty ≡ empty
+pub no_shard_pairs : shard_pairs small 0 empty ≡ empty
 no_shard_pairs = one_map (shard_pairs small 0 empty) empty (λ key. no_pairs small 0 key ∙ sym (get-empty nat_cmp key))
 
 -- the shard has room
@@ -328,6 +340,6 @@ new_key = ap (λ (o : Option ℕ). put_reply o (is_shard_full small 5 empty)) (g
 
 -- the state after it
 pub put_leaves : after small (first_state small) put_done ≡ put_state
-put_leaves = ap (λ (m : Pairs). record { contents = record { pairs = m; items = [] }; positions = 1 ∷ [] })
+put_leaves = ap (λ (m : Pairs). record { contents = record { pairs = m; items = [] }; points = record { position = 1 } ∷ [] })
     (ap (λ (o : Option ℕ). put_pairs empty 5 7 o (is_shard_full small 5 empty)) (get-empty nat_cmp 5)
     ∙ ap (λ (b : Bool). put_pairs empty 5 7 None b) room_for_five)

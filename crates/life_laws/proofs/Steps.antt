@@ -11,15 +11,16 @@ use Rattle.seq_object.proofs.Rooms.{room_by_room}
 use Rattle.seq_object.proofs.Histories.{legal_in_pieces, commands_in_pieces, count-append}
 use Rattle.life_model.specs.declared.life.Life.{Life}
 use Rattle.life_model.specs.declared.life.Life.TheVariants.{Start, Resume}
-use Rattle.life_model.specs.Life.{Opening, sizes, script_of, opening_place, place_after, next_command, last_mark, saved, AreRising, IsPause, entries_between, IsStretch, AreStretches, IsBegun, MayDraw}
+use Rattle.life_model.specs.Life.{Opening, sizes, script_of, opening_place, place_after, next_command, last_mark, covered, AreRising, IsPause, entries_between, IsStretch, AreStretches, BeginsRightly, MayJoin}
 use Rattle.life_laws.specs.LifeLaws.{OpeningLaw, OrderDrawLaw, OrderMarkLaw, DrawLaw, MarkLaw, RoomByRoomLifeLaw, BetweenLaw}
 
 -- all parts hold of no entry and no mark
 pub opening : OpeningLaw
-opening o threads begun = record {
+opening o threads points begun = record {
   replies = tt;
   order = record {
     threads = threads;
+    points = points;
     commands = λ thread. tt;
     rising = omega arith;
     begun = begun;
@@ -57,7 +58,8 @@ stretches-push o h low [] m a s = (s, tt)
 stretches-push o h low (k ∷ ks) m a s = (a.0, stretches-push o h k ks m a.1 s)
 
 -- a mark at the end keeps the beginning; in a resume the first one is 0 since nothing was drawn
-begun-push : (life : Life) (o : Opening) (h : List Entry) (marks : List ℕ) → IsBegun life o h marks → IsBegun life o h (marks ++ length h ∷ [])
+begun-push : (life : Life) (o : Opening) (h : List Entry) (marks : List ℕ) → BeginsRightly (record o { life = life }) h marks
+    → BeginsRightly (record o { life = life }) h (marks ++ length h ∷ [])
 begun-push Start o h marks b = b
 begun-push Resume o h [] b = ap length b
 begun-push Resume o h (m ∷ ms) b = b
@@ -72,12 +74,13 @@ none_between (suc n) (e ∷ h) = none_between n h
 pub order_mark : OrderMarkLaw
 order_mark o h marks legal may = record {
   threads = legal.threads;
+  points = legal.points;
   commands = legal.commands;
   rising = rising-push 0 marks (length h) legal.rising;
   begun = begun-push o.life o h marks legal.begun;
   stretches = stretches-push o h 0 marks (length h) legal.stretches may;
   rest = λ thread.
-      let none : entries_between h (saved (marks ++ length h ∷ [])) (length h) thread ≡ 0 =
+      let none : entries_between h (covered (marks ++ length h ∷ [])) (length h) thread ≡ 0 =
       ap (λ (low : ℕ). entries_between h low (length h) thread) (last-push 0 marks (length h))
       ∙ ap (λ (es : List Entry). length (of_thread thread es)) (none_between (length h) h) in
       omega (arith, none);
@@ -102,7 +105,7 @@ other : (thread : ℕ) (e : Entry) → e.thread ≢ thread → if_own thread e �
 other thread e ne = ap (λ (b : Bool). cond b (e ∷ []) []) (ne_eqb e.thread thread ne)
 
 -- each thread's entries stay its commands in order
-commands-push : (o : Opening) (h : List Entry) (marks : List ℕ) (e : Entry) → MayDraw o h marks e → (thread : ℕ)
+commands-push : (o : Opening) (h : List Entry) (marks : List ℕ) (e : Entry) → MayJoin o h marks e → (thread : ℕ)
     → AreCommands (script_of o.scripts thread) (opening_place o thread) (of_thread thread h)
     → AreCommands (script_of o.scripts thread) (opening_place o thread) (of_thread thread (h ++ e ∷ []))
 commands-push o h marks e may thread a =
@@ -115,8 +118,8 @@ commands-push o h marks e may thread a =
     ((commands_in_pieces (script_of o.scripts thread) (opening_place o thread) (of_thread thread h) (if_own thread e)).0 a last)
 
 -- more entries keep the beginning, where recovery is marked
-begun-grown : (life : Life) (o : Opening) (h k : List Entry) (marks : List ℕ) → (life ≡ Resume → marks ≢ []) → IsBegun life o h marks
-    → IsBegun life o k marks
+begun-grown : (life : Life) (o : Opening) (h k : List Entry) (marks : List ℕ) → (life ≡ Resume → marks ≢ []) → BeginsRightly (record o { life = life }) h marks
+    → BeginsRightly (record o { life = life }) k marks
 begun-grown Start o h k marks some b = b
 begun-grown Resume o h k [] some b = absurd (some refl refl)
 begun-grown Resume o h k (m ∷ ms) some b = b
@@ -144,22 +147,22 @@ drop-push (suc n) [] e le = absurd (omega arith)
 drop-push (suc n) (x ∷ h) e le = drop-push n h e (omega arith)
 
 -- no thread has more than its quota since the last mark
-rest-push : (o : Opening) (h : List Entry) (marks : List ℕ) (e : Entry) → AreRising 0 marks (length h) → MayDraw o h marks e → (thread : ℕ)
-    → entries_between h (saved marks) (length h) thread ≤ o.settings.every
-    → entries_between (h ++ e ∷ []) (saved marks) (length (h ++ e ∷ [])) thread ≤ o.settings.every
+rest-push : (o : Opening) (h : List Entry) (marks : List ℕ) (e : Entry) → AreRising 0 marks (length h) → MayJoin o h marks e → (thread : ℕ)
+    → entries_between h (covered marks) (length h) thread ≤ o.settings.every
+    → entries_between (h ++ e ∷ []) (covered marks) (length (h ++ e ∷ [])) thread ≤ o.settings.every
 rest-push o h marks e rising may thread few =
-    let after : entries_between (h ++ e ∷ []) (saved marks) (length (h ++ e ∷ [])) thread ≡
-    length (of_thread thread (drop (saved marks) h)) + length (if_own thread e) =
-    ap (λ (es : List Entry). length (of_thread thread (drop (saved marks) es))) (take-length (h ++ e ∷ []))
-    ∙ ap (λ (es : List Entry). length (of_thread thread es)) (drop-push (saved marks) h e (last_within 0 marks (length h) rising))
-    ∙ count-append thread (drop (saved marks) h) (e ∷ []) in
-    let before : (t : ℕ) → entries_between h (saved marks) (length h) t ≡ length (of_thread t (drop (saved marks) h)) =
-    λ t. ap (λ (es : List Entry). length (of_thread t (drop (saved marks) es))) (take-length h) in
+    let after : entries_between (h ++ e ∷ []) (covered marks) (length (h ++ e ∷ [])) thread ≡
+    length (of_thread thread (drop (covered marks) h)) + length (if_own thread e) =
+    ap (λ (es : List Entry). length (of_thread thread (drop (covered marks) es))) (take-length (h ++ e ∷ []))
+    ∙ ap (λ (es : List Entry). length (of_thread thread es)) (drop-push (covered marks) h e (last_within 0 marks (length h) rising))
+    ∙ count-append thread (drop (covered marks) h) (e ∷ []) in
+    let before : (t : ℕ) → entries_between h (covered marks) (length h) t ≡ length (of_thread t (drop (covered marks) h)) =
+    λ t. ap (λ (es : List Entry). length (of_thread t (drop (covered marks) es))) (take-length h) in
     elim (eqb_tells e.thread thread) [
       | inl s ↦
           let one : length (if_own thread e) ≡ 1 = ap length (own thread e s.1) in
-          let room : entries_between h (saved marks) (length h) thread < o.settings.every =
-          subst (λ (t : ℕ). entries_between h (saved marks) (length h) t < o.settings.every) s.1 may.quota in
+          let room : entries_between h (covered marks) (length h) thread < o.settings.every =
+          subst (λ (t : ℕ). entries_between h (covered marks) (length h) t < o.settings.every) s.1 may.quota in
           let was = before thread in
           omega (arith, after, was, one, room)
       | inr s ↦
@@ -172,6 +175,7 @@ rest-push o h marks e rising may thread few =
 pub order_draw : OrderDrawLaw
 order_draw o h marks e legal may = record {
   threads = legal.threads;
+  points = legal.points;
   commands = λ thread. commands-push o h marks e may thread (legal.commands thread);
   rising = rising-more 0 marks (length h) (length (h ++ e ∷ [])) (longer h (e ∷ [])) legal.rising;
   begun = begun-grown o.life o h (h ++ e ∷ []) marks may.recovered legal.begun;

@@ -1,13 +1,12 @@
 -- The definitions tried on lives that were worked out by hand.
 use Rattle.std.proofs.Common.{◌≡◌, ◌≢◌, ℕ, ◌<◌, zero, suc, cond, List, [], ◌∷◌, length, take, Bool, refl, sym, ap, ◌∙◌, subst, inl, inr, ⊎_elim, arith}
-use Rattle.std.specs.Prelude.{slice_index}
 use Rattle.std.proofs.lemmas.Bool.{ne_eqb}
 use Rattle.seq_object.specs.declared.command.Command.TheVariants.{Take, Enq}
 use Rattle.seq_object.specs.declared.command.Reply.TheVariants.{Found, Done}
 use Rattle.seq_object.specs.declared.history.Entry.{Entry}
-use Rattle.seq_object.specs.History.{State, of_thread, AreCommands}
-use Rattle.life_model.specs.Life.{script_of, opening_place, entries_between, next_command, IsStretch, IsInOrder, IsPause}
-use Rattle.life_laws.specs.Examples.{waiting, waiting_history, stuck, hurried, one_done, two_done, resumed, pausing, pausing_history, entry, LegalExamples, IllegalExamples}
+use Rattle.seq_object.specs.History.{State, of_thread, AreCommands, point_at}
+use Rattle.life_model.specs.Life.{script_of, opening_place, entries_between, next_command, IsStretch, IsInOrder, IsPause, Opening}
+use Rattle.life_laws.specs.Examples.{waiting, waiting_history, stuck, hurried, one_done, two_done, resumed, pausing, pausing_history, entry, LegalExamples, IllegalExamples, DrawExamples}
 
 -- no entry is of a thread past the last
 pub other : (thread : ℕ) (e : Entry) (es : List Entry) → e.thread ≢ thread → of_thread thread (e ∷ es) ≡ of_thread thread es
@@ -22,6 +21,7 @@ none_third thread = other (suc (suc thread)) (entry 1 0 (Enq 9) Done) (entry 0 0
 waiting_order : IsInOrder waiting waiting_history (1 ∷ 2 ∷ [])
 waiting_order = record {
   threads = refl;
+  points = refl;
   commands = commands;
   rising = (omega arith, (omega arith, omega arith));
   begun = (refl, refl);
@@ -49,6 +49,7 @@ waiting_order = record {
 stuck_order : IsInOrder stuck [] (0 ∷ [])
 stuck_order = record {
   threads = refl;
+  points = refl;
   commands = λ thread. tt;
   rising = (omega arith, omega arith);
   begun = (refl, refl);
@@ -64,6 +65,7 @@ none_second thread e f a b = other (suc thread) e (f ∷ []) (λ q. omega (arith
 hurried_order : IsInOrder hurried two_done (2 ∷ [])
 hurried_order = record {
   threads = refl;
+  points = refl;
   commands = commands;
   rising = (omega arith, omega arith);
   begun = (refl, refl);
@@ -84,6 +86,7 @@ hurried_order = record {
 resumed_order : IsInOrder resumed two_done (0 ∷ 2 ∷ [])
 resumed_order = record {
   threads = refl;
+  points = refl;
   commands = hurried_order.commands;
   rising = (omega arith, (omega arith, omega arith));
   begun = refl;
@@ -95,6 +98,7 @@ resumed_order = record {
 pausing_order : IsInOrder pausing pausing_history (2 ∷ [])
 pausing_order = record {
   threads = refl;
+  points = refl;
   commands = commands;
   rising = (omega arith, omega arith);
   begun = (refl, refl);
@@ -119,21 +123,23 @@ legal_tried = record {
   spent = record { replies = (refl, (refl, tt)); order = hurried_order };
   pause = record { replies = (refl, (refl, tt)); order = pausing_order };
   recovered = record { replies = (refl, (refl, tt)); order = resumed_order };
+  epochs = refl;
 }
 
 -- a stretch of one entry of two, before a command that is no take, is none
-no_stretch : (h : List Entry) → entries_between h 0 1 0 ≡ 1 → (IsPause (next_command hurried (take 1 h) 0) → ⊥) → IsStretch hurried h 0 1 0 → ⊥
-no_stretch h one busy stretch = ⊎_elim
+pub no_stretch : (o : Opening) (h : List Entry) → o.settings.every ≡ 2 → entries_between h 0 1 0 ≡ 1 → (IsPause (next_command o (take 1 h) 0) → ⊥)
+    → IsStretch o h 0 1 0 → ⊥
+no_stretch o h two one busy stretch = ⊎_elim
     (λ (none : entries_between h 0 1 0 ≡ 0). absurd (omega (arith, none, one)))
-    (⊎_elim (λ (all : entries_between h 0 1 0 ≡ 2). absurd (omega (arith, all, one)))
-    (λ (few : (entries_between h 0 1 0 < 2) × IsPause (next_command hurried (take 1 h) 0)). busy few.1))
+    (⊎_elim (λ (all : entries_between h 0 1 0 ≡ o.settings.every). absurd (omega (arith, all, one, two)))
+    (λ (few : (entries_between h 0 1 0 < o.settings.every) × IsPause (next_command o (take 1 h) 0)). busy few.1))
     stretch
 
 -- the clause that each of them breaks
 pub illegal_tried : IllegalExamples
 illegal_tried = record {
-  early_mark = λ legal. no_stretch one_done refl (λ p. p) (legal.order.stretches.0 0);
-  mark_inside = λ legal. no_stretch two_done refl (λ p. p) (legal.order.stretches.0 0);
+  early_mark = λ legal. no_stretch hurried one_done refl refl (λ p. p) (legal.order.stretches.0 0);
+  mark_inside = λ legal. no_stretch hurried two_done refl refl (λ p. p) (legal.order.stretches.0 0);
   falling_mark = λ legal. absurd (omega (arith, legal.order.rising.1.0));
   late_mark = λ legal. absurd (omega (arith, legal.order.rising.1));
   over_quota = λ legal. absurd (omega (arith, legal.order.rest 0));
@@ -143,8 +149,24 @@ illegal_tried = record {
   twice = λ legal. absurd (omega (arith, (legal.order.commands 0).2.0));
   no_such_thread = λ legal. absurd (cc ((legal.order.commands 7).1));
   no_script = λ legal. absurd (omega (arith, legal.order.threads));
+  no_point = λ legal. absurd (omega (arith, legal.order.points));
   late_start = λ legal. absurd (omega (arith, legal.order.begun.1));
-  other_state = λ legal. absurd (omega (arith, ap (λ (s : State). slice_index s.positions 0) legal.order.begun.0));
+  other_state = λ legal. absurd (omega (arith, ap (λ (s : State). (point_at s.points 0).position) legal.order.begun.0));
   too_soon = λ legal. absurd (cc (legal.order.begun));
   no_recovery = λ legal. absurd (omega (arith, legal.order.begun));
+}
+
+-- the clause that holds or breaks
+pub draws_tried : DrawExamples
+draws_tried = record {
+  next = record { next = refl; index = refl; quota = omega arith; recovered = λ resume. absurd (cc (resume)) };
+  passed_over = λ may. absurd (cc (may.next));
+  other_index = λ may. absurd (omega (arith, may.index));
+  spent = λ may. absurd (omega (arith, may.quota));
+  marked_since = record { next = refl; index = refl; quota = omega arith; recovered = λ resume. absurd (cc (resume)) };
+  recovering = λ may. may.recovered refl refl;
+  recovered = record { next = refl; index = refl; quota = omega arith; recovered = λ resume none. absurd (cc (none)) };
+  whole = hurried_order.stretches.0;
+  part = λ may. no_stretch hurried one_done refl refl (λ p. p) (may 0);
+  pause = pausing_order.stretches.0;
 }

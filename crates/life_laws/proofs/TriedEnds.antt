@@ -1,20 +1,22 @@
 -- The definitions of ends, of planned stores and of work tried on examples that were worked out by hand.
-use Rattle.std.proofs.Common.{◌≡◌, ◌≢◌, ℕ, ◌<◌, zero, suc, List, [], ◌∷◌, length, take, Some, None, refl, ap, inl, inr, ⊎_elim, arith}
-use Rattle.std.specs.Prelude.{◌⊎◌, slice_index_or}
+use Rattle.std.proofs.Common.{◌≡◌, ◌≢◌, ℕ, ◌<◌, zero, suc, List, [], ◌∷◌, length, take, None, refl, ap, inl, inr, ⊎_elim, arith, subst, sym}
+use Rattle.std.specs.Prelude.{slice_index_or}
 use Rattle.std.specs.List.{Contains}
 use Rattle.std.proofs.lemmas.Option.{slice_get_past}
 use Rattle.seq_object.specs.declared.command.Command.{Command}
-use Rattle.seq_object.specs.declared.command.Command.TheVariants.{Take}
+use Rattle.seq_object.specs.declared.command.Command.TheVariants.{Enq, Take}
 use Rattle.seq_object.specs.declared.history.Entry.{Entry}
 use Rattle.life_model.specs.declared.life.Life.{Life}
 use Rattle.life_model.specs.declared.life.Life.TheVariants.{Start, Resume}
-use Rattle.life_model.specs.Life.{Opening, script_of, place_after, next_command, saved}
+use Rattle.life_model.specs.Life.{Opening, script_of, place_after, next_command, covered, IsPause}
 use Rattle.life_model.specs.Ends.{AreUsed, IsFinished}
 use Rattle.life_model.specs.Work.{NamesAll, HasNoTake}
 use Rattle.life_laws.specs.Examples.{waiting, waiting_history, stuck, hurried, idle, EndExamples, StoreExamples, WorkExamples}
+use Rattle.std.proofs.lemmas.List.Elements.{All-head, All-from_recursion}
+use Rattle.seq_object.specs.Object.{IsTakeless}
 
 -- a thread past the last has no command
-no_more : (o : Opening) (h : List Entry) (thread : ℕ) → length (script_of o.scripts thread) ≡ 0 → next_command o h thread ≡ None
+pub no_more : (o : Opening) (h : List Entry) (thread : ℕ) → length (script_of o.scripts thread) ≡ 0 → next_command o h thread ≡ None
 no_more o h thread none = slice_get_past (script_of o.scripts thread) (place_after o h thread) (omega (arith, none))
 
 -- both scripts are used
@@ -33,34 +35,35 @@ waiting_finished : IsFinished waiting waiting_history (1 ∷ 2 ∷ [])
 waiting_finished = (waiting_used, inl ((λ e. absurd (cc)), refl))
 
 -- each thread is at its end or before a take
-stuck_ends : (thread : ℕ) → (next_command stuck [] thread ≡ None) ⊎ (next_command stuck [] thread ≡ Some Take)
-stuck_ends zero = inr refl
-stuck_ends (suc zero) = inr refl
-stuck_ends (suc (suc thread)) = inl (no_more stuck [] (suc (suc thread)) refl)
+stuck_ends : (thread : ℕ) → IsPause (next_command stuck [] thread)
+stuck_ends zero = tt
+stuck_ends (suc zero) = tt
+stuck_ends (suc (suc thread)) = subst IsPause (sym (no_more stuck [] (suc (suc thread)) refl)) tt
 
--- a life that is not all saved is not finished
-not_saved_yet : (o : Opening) (h : List Entry) (marks : List ℕ) → ((marks ≢ []) → saved marks ≡ length h → ⊥)
+-- a life that is not all covered is not finished
+not_covered_yet : (o : Opening) (h : List Entry) (marks : List ℕ) → ((marks ≢ []) → covered marks ≡ length h → ⊥)
     → (o.life ≡ Start → h ≡ [] → marks ≡ [] → ⊥) → IsFinished o h marks → ⊥
-not_saved_yet o h marks never busy f =
-    ⊎_elim (λ (a : (marks ≢ []) × (saved marks ≡ length h)). never a.0 a.1) (λ (a : (o.life ≡ Start) × (h ≡ []) × (marks ≡ [])). busy a.0 a.1 a.2) f.1
+not_covered_yet o h marks never busy f =
+    ⊎_elim (λ (a : (marks ≢ []) × (covered marks ≡ length h)). never a.0 a.1) (λ (a : (o.life ≡ Start) × (h ≡ []) × (marks ≡ [])). busy a.0 a.1 a.2) f.1
 
 -- the clause that holds or breaks
 pub ends_tried : EndExamples
 ends_tried = record {
   finished = waiting_finished;
   nothing_to_do = (idle_used Start, inr (refl, refl, refl));
-  recovering = not_saved_yet (idle Resume) [] [] (λ some. absurd (some refl)) (λ start. absurd (cc (start)));
+  recovering = not_covered_yet (idle Resume) [] [] (λ some. absurd (some refl)) (λ start. absurd (cc (start)));
   recovered = (idle_used Resume, inl ((λ e. absurd (cc)), refl));
-  not_saved = not_saved_yet waiting waiting_history (1 ∷ []) (λ some all. absurd (omega (arith, all))) (λ start none. absurd (cc (none)));
+  not_covered = not_covered_yet waiting waiting_history (1 ∷ []) (λ some all. absurd (omega (arith, all))) (λ start none. absurd (cc (none)));
+  never_marked = not_covered_yet waiting waiting_history [] (λ some all. absurd (omega (arith, all))) (λ start none. absurd (cc (none)));
   not_used = λ f. absurd (cc (f.0 0));
   not_cut = λ never. never waiting_finished;
   cut = λ f. absurd (cc (f.0 0));
-  stalled = record { closed = omega arith; saved = refl; ends = stuck_ends; waiting = 0; waits = refl; empty = refl };
+  stalled = record { closed = omega arith; all = refl; ends = stuck_ends; waiting = 0; waits = refl; empty = refl };
   not_closed = λ s. absurd (omega (arith, s.closed));
   only_recovered = λ s. absurd (omega (arith, s.closed));
-  can_go_on = λ s. ⊎_elim (λ (none : next_command waiting [] 1 ≡ None). absurd (cc (none)))
-      (λ (waits : next_command waiting [] 1 ≡ Some Take). absurd (cc (waits))) (s.ends 1);
+  can_go_on = λ s. s.ends 1;
   none_waits = λ s. absurd (cc (waiting_used s.waiting, s.waits));
+  too_short = λ s. absurd (omega (arith, s.all));
   fed = λ s. absurd (cc (s.empty));
 }
 
@@ -107,18 +110,15 @@ never n c = no_other n c.0 c.1 c.2
 
 -- no command is a take
 no_takes : HasNoTake hurried
-no_takes zero zero e = absurd (cc (e))
-no_takes zero (suc zero) e = absurd (cc (e))
-no_takes zero (suc (suc zero)) e = absurd (cc (e))
-no_takes zero (suc (suc (suc place))) e = absurd (cc (e))
-no_takes (suc thread) place e = absurd (cc (slice_get_past no_commands place (omega arith), e))
+no_takes zero = All-from_recursion IsTakeless (Enq 1 ∷ Enq 2 ∷ Enq 3 ∷ []) (tt, (tt, (tt, tt)))
+no_takes (suc thread) = All-from_recursion IsTakeless no_commands tt
 
 -- the numbers are computed
 pub work_tried : WorkExamples
 work_tried = record {
   few = omega arith;
   too_many = λ few. absurd (omega (arith, few));
-  in_turn = refl;
+  turn_by_turn = refl;
   two_rounds = (2, both, (2, both, tt));
   no_round = λ r. never r.0 (r.1 1 (omega arith));
   after_recovery = refl;
@@ -126,8 +126,14 @@ work_tried = record {
   most = (omega arith, omega arith);
   too_little = λ w. absurd (omega (arith, w.0));
   too_much = λ w. absurd (omega (arith, w.1));
+  limit_least = record { least = omega arith; most = λ cut. omega arith; recovered = λ cut start. absurd (cc (start)) };
+  limit_most = record { least = omega arith; most = λ cut. omega arith; recovered = λ cut start. absurd (cc (start)) };
+  limit_too_small = λ f. absurd (omega (arith, f.least));
+  limit_too_great = λ f. absurd (omega (arith, f.most refl));
+  within_recovery = λ f. f.recovered refl refl refl;
   once = λ no_take. omega arith;
   more = λ few. absurd (omega (arith, few no_takes));
+  with_take = λ no_take. absurd (All-head IsTakeless Take [] (no_take 0));
   seldom = omega arith;
   too_often = λ few. absurd (omega (arith, few));
 }

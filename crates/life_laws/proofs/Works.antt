@@ -5,10 +5,12 @@ use Rattle.std.proofs.lemmas.Bool.{cases_lt}
 use Rattle.std.proofs.Math.Nat.{mul-add-mod_self_left, mod-eq_of_lt, mul-le-mul_left}
 use Rattle.seq_object.specs.History.{of_room, total}
 use Rattle.seq_object.proofs.Totals.{total-le, room_count as count_rooms}
-use Rattle.room_model.specs.Rooms.{room_count, line_total}
 use Rattle.life_model.specs.Life.{sizes, closings}
-use Rattle.life_model.specs.Work.{closing_events, NamesAll, OffersRounds, round_robin, least_done, most_done, one_if}
+use Rattle.life_model.specs.Work.{closing_events, NamesAll, OffersRounds, in_turn, least_done, most_done, one_if, turns_for_rounds}
 use Rattle.life_laws.specs.WorkLaws.{FlushedLittleLaw, LeastWorkLaw, MostWorkLaw, RoundRobinLaw, WorkerRoundsLaw}
+use Rattle.life_model.specs.declared.life.Life.{Life}
+use Rattle.life_model.specs.declared.life.Life.TheVariants.{Start, Resume}
+use Rattle.seq_object.specs.Sizes.{room_count, line_total}
 
 -- a sum of sums
 pub total-add : (f g : ℕ → ℕ) (n : ℕ) → total (λ k. f k + g k) n ≡ total f n + total g n
@@ -45,7 +47,7 @@ total-split f a (suc n) =
 pub flushed_little : FlushedLittleLaw
 flushed_little o image h marks own pos rooms threads last =
     let z = sizes o in
-    let c = closings o.life marks in
+    let c = closings o marks in
     let first : total own (z.shards + 1) ≤ 4 * length h =
     let each = total-le own (λ room. 4 * length (of_room z room h)) (z.shards + 1) (λ room lt. rooms room (omega arith)) in
     omega (arith, each, total-times 4 (λ room. length (of_room z room h)) (z.shards + 1), count_rooms z pos h) in
@@ -98,28 +100,28 @@ most_done_all z worked closed has marks closing epochs =
 -- rounds
 
 -- the first turns of a schedule in turn
-take-round : (threads turn m n : ℕ) → m ≤ n → take m (round_robin threads turn n) ≡ round_robin threads turn m
+take-round : (threads turn m n : ℕ) → m ≤ n → take m (in_turn threads turn n) ≡ in_turn threads turn m
 take-round threads turn zero n le = refl
 take-round threads turn (suc m) zero le = absurd (omega arith)
 take-round threads turn (suc m) (suc n) le = ap (λ (ts : List ℕ). (turn % threads) ∷ ts) (take-round threads (suc turn) m n (omega arith))
 
 -- the turns behind them
-drop-round : (threads turn m n : ℕ) → drop m (round_robin threads turn (m + n)) ≡ round_robin threads (turn + m) n
-drop-round threads turn zero n = ap (λ (k : ℕ). round_robin threads turn k) (omega arith) ∙ ap (λ (k : ℕ). round_robin threads k n) (omega arith)
+drop-round : (threads turn m n : ℕ) → drop m (in_turn threads turn (m + n)) ≡ in_turn threads (turn + m) n
+drop-round threads turn zero n = ap (λ (k : ℕ). in_turn threads turn k) (omega arith) ∙ ap (λ (k : ℕ). in_turn threads k n) (omega arith)
 drop-round threads turn (suc m) n =
-    ap (λ (k : ℕ). drop (suc m) (round_robin threads turn k)) (next m n) ∙ drop-round threads (suc turn) m n
-    ∙ ap (λ (k : ℕ). round_robin threads k n) (omega arith)
+    ap (λ (k : ℕ). drop (suc m) (in_turn threads turn k)) (next m n) ∙ drop-round threads (suc turn) m n
+    ∙ ap (λ (k : ℕ). in_turn threads k n) (omega arith)
   where
     next : (m n : ℕ) → suc m + n ≡ suc (m + n)
     next m n = omega arith
 
 -- as many turns as asked for
-length-round : (threads turn n : ℕ) → length (round_robin threads turn n) ≡ n
+length-round : (threads turn n : ℕ) → length (in_turn threads turn n) ≡ n
 length-round threads turn zero = refl
 length-round threads turn (suc n) = ap suc (length-round threads (suc turn) n)
 
 -- which thread each turn names
-round_at : (threads turn n k d : ℕ) → k < n → slice_index_or (round_robin threads turn n) k d ≡ (turn + k) % threads
+round_at : (threads turn n k d : ℕ) → k < n → slice_index_or (in_turn threads turn n) k d ≡ (turn + k) % threads
 round_at threads turn zero k d lt = absurd (omega arith)
 round_at threads turn (suc n) zero d lt = ap (λ (x : ℕ). x % threads) (omega arith)
 round_at threads turn (suc n) (suc k) d lt = round_at threads (suc turn) n k d (omega arith) ∙ ap (λ (x : ℕ). x % threads) (omega arith)
@@ -147,7 +149,7 @@ named_within threads turn thread lt = ⊎_elim
     mul-suc a b = omega arith
 
 -- so that many turns name all threads
-names_all : (threads turn : ℕ) → NamesAll threads (round_robin threads turn threads)
+names_all : (threads turn : ℕ) → NamesAll threads (in_turn threads turn threads)
 names_all threads turn thread lt =
     let there = named_within threads turn thread lt in
     (there.0, omega (arith, length-round threads turn threads, there.1), round_at threads turn threads there.0 thread there.1 ∙ there.2)
@@ -157,21 +159,34 @@ pub round_robin_rounds : RoundRobinLaw
 round_robin_rounds threads turn zero turns pos le = tt
 round_robin_rounds threads turn (suc rounds) turns pos le =
     let more : threads + threads * rounds ≤ turns = omega arith in
-    let rest : OffersRounds threads rounds (round_robin threads (turn + threads) (turns - threads)) =
+    let rest : OffersRounds threads rounds (in_turn threads (turn + threads) (turns - threads)) =
     round_robin_rounds threads (turn + threads) rounds (turns - threads) pos (omega arith) in
-    let named : NamesAll threads (take threads (round_robin threads turn turns)) =
+    let named : NamesAll threads (take threads (in_turn threads turn turns)) =
     subst (NamesAll threads) (sym (take-round threads turn threads turns (omega arith))) (names_all threads turn) in
-    let dropped : drop threads (round_robin threads turn turns) ≡ round_robin threads (turn + threads) (turns - threads) =
-    ap (λ (n : ℕ). drop threads (round_robin threads turn n)) (omega arith) ∙ drop-round threads turn threads (turns - threads) in
+    let dropped : drop threads (in_turn threads turn turns) ≡ in_turn threads (turn + threads) (turns - threads) =
+    ap (λ (n : ℕ). drop threads (in_turn threads turn n)) (omega arith) ∙ drop-round threads turn threads (turns - threads) in
     (threads, named, subst (OffersRounds threads rounds) (sym dropped) rest)
 
 -- all turns at a start, and at a resume those behind recovery's
 pub worker_rounds : WorkerRoundsLaw
-worker_rounds z rounds turns pos = (
-  (λ le. round_robin_rounds z.threads 0 rounds turns pos le),
-  (λ le.
-      let most = 5 * line_total z in
-      let dropped : drop most (round_robin z.threads 0 turns) ≡ round_robin z.threads (0 + most) (turns - most) =
-      ap (λ (n : ℕ). drop most (round_robin z.threads 0 n)) (omega arith) ∙ drop-round z.threads 0 most (turns - most) in
-      subst (OffersRounds z.threads rounds) (sym dropped) (round_robin_rounds z.threads (0 + most) rounds (turns - most) pos (omega arith))),
-)
+worker_rounds o rounds turns pos = (all_turns o.life, behind o.life)
+  where
+    threads : ℕ
+    threads = o.settings.threads
+
+    most : ℕ
+    most = 5 * line_total (sizes o)
+
+    offers : Life → Type 0
+    offers life = OffersRounds threads rounds (turns_for_rounds (record o { life = life }) (in_turn threads 0 turns))
+
+    all_turns : (life : Life) → life ≡ Start → threads * rounds ≤ turns → offers life
+    all_turns Start e le = round_robin_rounds threads 0 rounds turns pos le
+    all_turns Resume e le = absurd (cc)
+
+    behind : (life : Life) → threads * rounds + most ≤ turns → offers life
+    behind Start le = round_robin_rounds threads 0 rounds turns pos (omega arith)
+    behind Resume le =
+        let dropped : drop most (in_turn threads 0 turns) ≡ in_turn threads (0 + most) (turns - most) =
+        ap (λ (n : ℕ). drop most (in_turn threads 0 n)) (omega arith) ∙ drop-round threads 0 most (turns - most) in
+        subst (OffersRounds threads rounds) (sym dropped) (round_robin_rounds threads (0 + most) rounds (turns - most) pos (omega arith))

@@ -1,12 +1,11 @@
 -- The laws of how a life ends.
-use Rattle.std.specs.Prelude.{◌≡◌, ◌≢◌, ℕ, ◌⊎◌, List, [], ◌∷◌, ◌++◌, length, Some, None}
+use Rattle.std.specs.Prelude.{◌≡◌, ◌≢◌, ℕ, ◌⊎◌, List, [], ◌∷◌, ◌++◌, length, Some}
 use Rattle.seq_object.specs.declared.history.Entry.{Entry}
 use Rattle.seq_object.specs.declared.command.Command.TheVariants.{Take}
-use Rattle.seq_object.specs.History.{contents_at}
 use Rattle.life_model.specs.declared.life.Life.TheVariants.{Resume}
 use Rattle.life_model.specs.declared.life.Outcome.{Outcome}
 use Rattle.life_model.specs.declared.life.Outcome.TheVariants.{Finished, Starved}
-use Rattle.life_model.specs.Life.{Opening, sizes, next_command}
+use Rattle.life_model.specs.Life.{Opening, next_command, IsPause, contents_now}
 use Rattle.life_model.specs.Ends.{AreUsed, IsFinished, IsStalled, EndsAs}
 
 -- where all scripts are used, a mark of all entries finishes a life
@@ -17,8 +16,7 @@ FinishedMarkLaw = (o : Opening) (h : List Entry) (marks : List ℕ) → AreUsed 
 -- of all entries stalls a life
 abbrev pub StalledMarkLaw : Type 0
 StalledMarkLaw = (o : Opening) (h : List Entry) (marks : List ℕ) (waiting : ℕ) → (o.life ≡ Resume → marks ≢ [])
-    → ((thread : ℕ) → (next_command o h thread ≡ None) ⊎ (next_command o h thread ≡ Some Take))
-    → next_command o h waiting ≡ Some Take → (contents_at (sizes o) o.state.contents h).items ≡ []
+    → ((thread : ℕ) → IsPause (next_command o h thread)) → next_command o h waiting ≡ Some Take → (contents_now o h).items ≡ []
     → IsStalled o h (marks ++ length h ∷ [])
 
 -- a life is finished or it is not

@@ -4,5 +4,8 @@ pub mod LifeLaws
 pub mod EndLaws
 pub mod WorkLaws
 pub mod Examples
-pub mod PresentLaws
 pub mod CutExamples
+pub mod ToldExamples
+pub mod StandsExamples
+pub mod LifeExamples
+pub mod RoomExamples

@@ -1,6 +1,6 @@
 //! The definitions tried on lives that were worked out by hand.
 //! Each is the contract of a function that does nothing.
-ghost use Rattle.life_laws.specs.Examples.{LegalExamples, IllegalExamples, EndExamples, StoreExamples, WorkExamples};
+ghost use Rattle.life_laws.specs.Examples.{LegalExamples, IllegalExamples, DrawExamples, EndExamples, StoreExamples, WorkExamples};
 
 /// Lives that are legal.
 pub fn legal_examples()
@@ -25,4 +25,9 @@ pub fn store_examples()
 /// How much work is done.
 pub fn work_examples()
     ensures { WorkExamples }
+{}
+
+/// Which entries may be drawn, and when all may be marked.
+pub fn draw_examples()
+    ensures { DrawExamples }
 {}

@@ -1,6 +1,6 @@
 //! The laws of images: what a power cut leaves of a memory, and the state that it recovers to.
 //! Each is the contract of a function that does nothing.
-ghost use Rattle.life_laws.specs.ImageLaws.{LinesLeftLaw, SameChoiceLaw, OneStateLaw, QuietLaw, StandsLaw, NextEpochLaw, RecordWordsLaw, RoomStandsLaw, FormattedLaw};
+ghost use Rattle.life_laws.specs.ImageLaws.{LinesLeftLaw, SameChoiceLaw, OneStateLaw, QuietLaw, StandsLaw, NextEpochLaw, RoomStandsLaw, FormattedLaw};
 
 /// An image has the rooms and lines of its memory, and each line is what the choice leaves of it.
 pub fn lines_left_law()
@@ -30,11 +30,6 @@ pub fn stands_law()
 /// Cells with nothing pending stand at the next epoch for what their loads say.
 pub fn next_epoch_law()
     ensures { NextEpochLaw }
-{}
-
-/// Of a room's cells only the record words matter.
-pub fn record_words_law()
-    ensures { RecordWordsLaw }
 {}
 
 /// A room that stands for what its own entries leave stands for its part of what the history leaves.

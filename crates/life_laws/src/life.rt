@@ -42,22 +42,22 @@ pub fn may_mark_law()
     ensures { MayMarkLaw }
 {}
 
-/// What was saved stays so where an entry is drawn.
+/// What was covered stays so where an entry is drawn.
 pub fn saved_draw_law()
     ensures { SavedDrawLaw }
 {}
 
-/// A mark of all entries saves them all, and the epoch is the next.
+/// A mark of all entries covers them all, and the epoch is the next.
 pub fn marked_law()
     ensures { MarkedLaw }
 {}
 
-/// A memory in which nothing is pending is safe where what it holds is what was saved.
+/// A memory in which nothing is pending is safe where what it holds is what was covered.
 pub fn quiet_safe_law()
     ensures { QuietSafeLaw }
 {}
 
-/// While the super room keeps the epoch, a memory is safe whose cells stand at it for what was saved.
+/// While the super room keeps the epoch, a memory is safe whose cells stand at it for what was covered.
 pub fn epoch_safe_law()
     ensures { EpochSafeLaw }
 {}

@@ -4,3 +4,4 @@ pub mod Crash
 pub mod Present
 pub mod Work
 pub mod Lives
+pub mod Told

@@ -1,35 +1,46 @@
 -- How much work a life does, and how many rounds a schedule offers.
-use Rattle.std.specs.Prelude.{◌≢◌, ℕ, zero, suc, ◌+◌, ◌*◌, ◌%◌, ◌<◌, ◌≤◌, ◌==◌, Bool, true, false, List, [], ◌∷◌, length, take, drop, count_by, Some, slice_get}
+use Rattle.std.specs.Prelude.{◌≢◌, ℕ, zero, suc, ◌+◌, ◌*◌, ◌%◌, ◌<◌, ◌≤◌, ◌==◌, Bool, true, false, List, [], ◌∷◌, length, take, drop, count_by, if◌then◌else◌, All, ◌≡◌}
 use Rattle.std.specs.List.{Contains}
-use Rattle.seq_object.specs.declared.command.Command.TheVariants.{Take}
 use Rattle.seq_object.specs.declared.history.Entry.{Entry}
-use Rattle.seq_object.specs.Sizes.{Sizes}
+use Rattle.seq_object.specs.Sizes.{super_room, room_count, line_total}
 use Rattle.life_model.specs.declared.life.Life.{Life}
 use Rattle.life_model.specs.declared.life.Life.TheVariants.{Start, Resume}
 use Rattle.seq_object.specs.History.{total}
 use Rattle.room_model.specs.Cell.{tag_of}
-use Rattle.room_model.specs.Rooms.{room_count, super_room, line_total}
-use Rattle.room_model.specs.Image.{Image, lines_at, epoch_at}
+use Rattle.room_model.specs.Image.{ImageRooms, lines_at, epoch_at}
 use Rattle.life_model.specs.Life.{Opening, script_of, closings, sizes}
+use Rattle.life_model.specs.declared.life.Outcome.{Outcome}
+use Rattle.life_model.specs.declared.life.Outcome.TheVariants.{Cut}
+use Rattle.seq_object.specs.Object.{IsTakeless}
+use Rattle.seq_object.specs.declared.sizes.Sizes.{Sizes}
 
 -- how many cells of a room of an image are tagged with its epoch
-abbrev pub torn_cells_in : Sizes → Image → ℕ → ℕ
+abbrev pub torn_cells_in : Sizes → ImageRooms → ℕ → ℕ
 torn_cells_in z image room = count_by (λ words. tag_of words == epoch_at z image) (lines_at image room)
 
 -- the cells that recovery of an image restores: those of the rooms below the super room that are tagged with its epoch
-abbrev pub torn_cells : Sizes → Image → ℕ
+abbrev pub torn_cells : Sizes → ImageRooms → ℕ
 torn_cells z image = total (torn_cells_in z image) (super_room z)
 
--- the write-backs that a life may make before its first entry: none at a start, else one for each cell restored and one for the epoch
-abbrev pub opening_write_backs : Life → Sizes → Image → ℕ
-opening_write_backs Start z image = 0
-opening_write_backs Resume z image = 1 + torn_cells z image
+-- how many rooms have a cell that recovery of an image restores
+abbrev pub torn_rooms : Sizes → ImageRooms → ℕ
+torn_rooms z image = total (λ room. if torn_cells_in z image room == 0 then 0 else 1) (super_room z)
 
--- the write-backs of a life are few: four for each entry, and for each closing one for each thread and one for the epoch
-abbrev pub IsFlushedLittle : Opening → Image → List Entry → List ℕ → ℕ → Type 0
-IsFlushedLittle o image h marks flushed =
-    flushed ≤ opening_write_backs o.life (sizes o) image
-    + 4 * length h + (o.settings.threads + 1) * (closings o.life marks + 1)
+-- by the kind of life
+abbrev recovery_write_backs_as : Life → Sizes → ImageRooms → ℕ
+recovery_write_backs_as Start z image = 0
+recovery_write_backs_as Resume z image = 1 + torn_cells z image
+
+-- the write-backs that a life may make before its first entry: none at a start, else one for each cell of the loaded image that is
+-- restored and one for the epoch
+abbrev pub recovery_write_backs : Opening → ImageRooms → ℕ
+recovery_write_backs o = recovery_write_backs_as o.life (sizes o)
+
+-- the write-backs of a life are few: those before its first entry, four for each entry, and for each closing and one more as many as
+-- there are threads and one for the epoch
+abbrev pub WritesFewBack : Opening → ImageRooms → List Entry → List ℕ → ℕ → Type 0
+WritesFewBack o image h marks flushed =
+    flushed ≤ recovery_write_backs o image + 4 * length h + (o.settings.threads + 1) * (closings o marks + 1)
 
 -- every thread is named in a stretch of a schedule
 abbrev pub NamesAll : ℕ → List ℕ → Type 0
@@ -41,20 +52,25 @@ OffersRounds threads zero turns = Unit {0}
 OffersRounds threads (suc rounds) turns = (n : ℕ) × NamesAll threads (take n turns) × OffersRounds threads rounds (drop n turns)
 
 -- a schedule that names so many threads in turn, from this turn's on
-abbrev pub round_robin : ℕ → ℕ → ℕ → List ℕ
-round_robin threads turn zero = []
-round_robin threads turn (suc n) = (turn % threads) ∷ round_robin threads (suc turn) n
+abbrev pub in_turn : ℕ → ℕ → ℕ → List ℕ
+in_turn threads turn zero = []
+in_turn threads turn (suc n) = (turn % threads) ∷ in_turn threads (suc turn) n
 
--- the turns of a schedule that can be a worker's: all at a start, and in a resume those after the most that recovery takes
-abbrev pub worker_turns : Life → Sizes → List ℕ → List ℕ
-worker_turns Start z turns = turns
-worker_turns Resume z turns = drop (5 * line_total z) turns
+-- by the kind of life
+abbrev turns_for_rounds_as : Life → Sizes → List ℕ → List ℕ
+turns_for_rounds_as Start z turns = turns
+turns_for_rounds_as Resume z turns = drop (5 * line_total z) turns
+
+-- the turns of a schedule in which rounds are counted: all at a start, and in a resume those after the most that recovery takes
+abbrev pub turns_for_rounds : Opening → List ℕ → List ℕ
+turns_for_rounds o = turns_for_rounds_as o.life (sizes o)
 
 -- the events of a closing that lists every line
 abbrev pub closing_events : Sizes → ℕ
 closing_events z = line_total z + 3 * room_count z + 3
 
--- of one worker: its entries, its marks, whether it is closing, the epochs from the workers' first to the last in which it ran, and its events
+-- of one worker: its entries, its marks, whether it is closing, how many epochs there are from the workers' first one in this life to the
+-- last in which it ran, both counted, and 0 where it has not run, and its events
 pub record Worked : Type 0 where
   pub entries : ℕ
   pub marks : ℕ
@@ -87,14 +103,21 @@ least_work z entries closed = 2 * entries + (2 * room_count z + 16) * closed
 abbrev pub most_work : Sizes → ℕ → ℕ → ℕ
 most_work z entries closed = 25 * (entries + z.threads) + 12 * z.threads * (closed + 1) + closing_events z * (closed + 1)
 
+-- the events of threads that run by themselves until so many are done fit that limit: each thread may do one more than it sees, and where
+-- the power was cut no more was left to do than there could be, and recovery, whose events are not counted, was done
+pub record FitsLimit (o : Opening) (h : List Entry) (marks : List ℕ) (outcome : Outcome) (limit : ℕ) : Type 0 where
+  pub least : least_work (sizes o) (length h) (closings o marks) ≤ limit + o.settings.threads
+  pub most : outcome ≡ Cut → limit ≤ most_work (sizes o) (length h) (closings o marks)
+  pub recovered : outcome ≡ Cut → o.life ≡ Resume → marks ≢ []
+
 -- no thread's script has a take
 abbrev pub HasNoTake : Opening → Type 0
-HasNoTake o = (thread place : ℕ) → slice_get (script_of o.scripts thread) place ≢ Some Take
+HasNoTake o = (thread : ℕ) → All IsTakeless (script_of o.scripts thread)
 
 -- the closings of a replay are at most two for each entry and one for each thread
 abbrev pub ClosesSeldom : Opening → List Entry → List ℕ → Type 0
-ClosesSeldom o h marks = closings o.life marks ≤ 2 * length h + o.settings.threads
+ClosesSeldom o h marks = closings o marks ≤ 2 * length h + o.settings.threads
 
 -- without a take the closings are at most one for each entry
 abbrev pub ClosesOncePerEntry : Opening → List Entry → List ℕ → Type 0
-ClosesOncePerEntry o h marks = HasNoTake o → closings o.life marks ≤ length h
+ClosesOncePerEntry o h marks = HasNoTake o → closings o marks ≤ length h

@@ -1,25 +1,15 @@
--- What a room's header says of lines that can be taken, and the plans of the writes that take a line, give one back, and count.
-use Rattle.std.specs.Prelude.{◌≡◌, ℕ, ◌<◌, ◌≤◌, ◌==◌, ◌&&◌, ◌⊎◌, Bool, List, [], ◌∷◌}
+-- The plans of the writes that take a line, give one back, and count, and where the line that is taken lies.
+use Rattle.std.specs.Prelude.{◌≡◌, ℕ, ◌<◌, ◌≤◌, ◌⊎◌, List, [], ◌∷◌}
 use Rattle.line_memory.specs.Line.{bank_load}
 use Rattle.room_model.specs.declared.write.Write.{Write}
 use Rattle.room_model.specs.Chains.{RoomWords, times}
-use Rattle.room_model.specs.MapRoom.{map_layout, IsMapRoom}
+use Rattle.room_model.specs.MapRoom.{live_layout, IsMapRoom}
 use Rattle.room_model.specs.QueueRoom.{IsQueueRoom}
 use Rattle.room_model.specs.Writes.{stores_behind}
-use Rattle.seq_object.specs.Sizes.{Sizes}
 use Rattle.seq_object.specs.Object.{Pairs}
 use Rattle.incll_var.specs.Cells.{CellBankState, epoch_of}
 use Rattle.incll_var.specs.Plans.{PlanState}
-
--- the header of a room of so many lines: the first free line is one of the room, 0 where none is free, and of the lines that were given
--- out there are no more than the room has
-pub record IsHeader (lines : ℕ) (r : RoomWords) : Type 0 where
-  pub free : r 0 0 < lines
-  pub fresh : r 0 1 ≤ lines
-
--- whether a room of so many lines has none left to be taken: none is free, and each was given out
-abbrev pub has_none : ℕ → RoomWords → Bool
-has_none lines r = (r 0 0 == 0) && (r 0 1 == lines)
+use Rattle.seq_object.specs.declared.sizes.Sizes.{Sizes}
 
 -- the plan with the stores of these writes behind its own, in the epoch and by the loads of these cells; the room that was made stays
 abbrev pub planned : CellBankState → PlanState → List Write → PlanState
@@ -32,8 +22,8 @@ IsPartlyPlanned cells old new (x ∷ xs) = (new ≡ old) ⊎ (new ≡ planned ce
 
 -- where a room of so many lines is a map room, this line is one for nodes, and stands in no bucket's chain
 pub record IsInNoChainOfMap (lines : ℕ) (r : RoomWords) (line : ℕ) : Type 0 where
-  pub low : (z : Sizes) (shard : ℕ) → z.lines ≡ lines → (pairs : Pairs) → IsMapRoom map_layout z shard r pairs → map_layout.first ≤ line
-  pub apart : (z : Sizes) (shard : ℕ) → z.lines ≡ lines → (pairs : Pairs) → (room : IsMapRoom map_layout z shard r pairs) → (b : ℕ) → b < 8 → times line (room.chain b) ≡ 0
+  pub low : (z : Sizes) (shard : ℕ) → z.lines ≡ lines → (pairs : Pairs) → IsMapRoom live_layout z shard r pairs → live_layout.first ≤ line
+  pub apart : (z : Sizes) (shard : ℕ) → z.lines ≡ lines → (pairs : Pairs) → (room : IsMapRoom live_layout z shard r pairs) → (b : ℕ) → b < 8 → times line (room.chain b) ≡ 0
 
 -- where a room of so many lines is the queue room, this line is one for nodes, and does not stand in the chain
 pub record IsInNoChainOfQueue (lines : ℕ) (r : RoomWords) (line : ℕ) : Type 0 where

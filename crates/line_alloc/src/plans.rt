@@ -3,30 +3,23 @@
 
 ghost use Rattle.std.specs.Prelude.{◌≡◌, ◌<◌, ◌&&◌, ◌==◌, ◌∷◌, [], true, length, if◌then◌else◌, IsTrue, ◌↔◌, OnOk, OnErr, IfOk};
 ghost use Rattle.line_memory.specs.Line.{bank_load};
-ghost use Rattle.room_model.specs.Writes.{taken_line, take_write, give_writes, write};
+ghost use Rattle.room_model.specs.Writes.{taken_line, take_write, give_writes, write, is_full};
 ghost use Rattle.incll_var.specs.Cells.{IsRunning, epoch_of};
 ghost use Rattle.incll_var.specs.Plans.{IsPlanned};
-ghost use Rattle.line_alloc.specs.Headers.{IsHeader, has_none, planned, IsPartlyPlanned, IsInNoChainOfMap, IsInNoChainOfQueue};
+ghost use Rattle.room_laws.specs.Stocks.{IsHeader};
+ghost use Rattle.line_alloc.specs.Headers.{planned, IsPartlyPlanned, IsInNoChainOfMap, IsInNoChainOfQueue};
 
 use crate::refusal::TakeRefusal;
 use incll_var::{CellBank, Plan};
+use room_model::{COUNT, FREE, FRESH, HEADER};
 use std::alloc::AllocError;
-
-/// The line of the header.
-const HEADER: u32 = 0;
-/// The word of the header that names the first free line, and of a free line that names the next one.
-const FREE: u32 = 0;
-/// The word of the header that names the first line that was never given out.
-const FRESH: u32 = 1;
-/// The word of the header that counts the keys or items.
-const COUNT: u32 = 2;
 
 /// Plans to take a line, and gives its number: the first free line, else the one at fresh. It is refused as full exactly
 /// where no line is left. Refused, it leaves the plan as it was.
 pub fn plan_take(cells: &CellBank, plan: &mut Plan) -> Result<u32, TakeRefusal>
     requires running { IsRunning cells.now.state }
     requires header { IsHeader (length cells.now.bank.lines) (bank_load cells.now.bank) }
-    ensures full { (result ≡ Err TakeRefusal.Full) ↔ (has_none (length cells.now.bank.lines) (bank_load cells.now.bank) ≡ true) }
+    ensures full { (result ≡ Err TakeRefusal.Full) ↔ (is_full (length cells.now.bank.lines) (bank_load cells.now.bank) ≡ true) }
     ensures line { IfOk result (λ line. line ≡ taken_line (bank_load cells.now.bank)) }
     ensures within { IfOk result (λ line. line < length cells.now.bank.lines) }
     ensures map { IfOk result (λ line. IsInNoChainOfMap (length cells.now.bank.lines) (bank_load cells.now.bank) line) }

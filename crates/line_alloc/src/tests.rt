@@ -5,7 +5,7 @@ ghost use Rattle.std.specs.Prelude.{true, IsTrue, IfOk, length, ◌≡◌};
 ghost use Rattle.line_memory.specs.Line.{bank_load};
 ghost use Rattle.incll_var.specs.Cells.{IsRunning, AreSettled, epoch_of};
 ghost use Rattle.incll_var.specs.Plans.{IsPlanned};
-ghost use Rattle.line_alloc.specs.Headers.{IsHeader};
+ghost use Rattle.room_laws.specs.Stocks.{IsHeader};
 
 use crate::{TakeRefusal, plan_count, plan_give, plan_take};
 use incll_var::{CellBank, CellState, Plan};
@@ -79,7 +79,7 @@ fn room_of(rt: &impl Abort, alloc: Global, header: [u64; 3]) -> Result<CellBank,
 {
     let [free, fresh, count] = header;
     let bank = bank_of(rt, alloc, [free, fresh, count, 0, 0, 0, 0, 0])?;
-    let mut cells = CellBank::clean(alloc, bank, 0);
+    let mut cells = CellBank::clean(alloc, bank, 0)?;
     cells.enter(1);
     Ok(cells)
 }

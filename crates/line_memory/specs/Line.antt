@@ -30,12 +30,12 @@ applied words [] = words
 applied words (s ∷ ss) = applied (slice_set words s.word s.value) ss
 
 -- what a power cut leaves of a line that keeps its first k pending stores: a survivor of the line
-abbrev pub left : LineState → ℕ → List ℕ
-left l k = applied l.base (take k l.pending)
+abbrev pub survivor : LineState → ℕ → List ℕ
+survivor l k = applied l.base (take k l.pending)
 
 -- the words of a line after all its pending stores: its words by loads
-abbrev pub whole : LineState → List ℕ
-whole l = applied l.base l.pending
+abbrev pub loaded_words : LineState → List ℕ
+loaded_words l = applied l.base l.pending
 
 -- a store of this value to this word
 abbrev pub store_to : ℕ → ℕ → Store
@@ -51,7 +51,7 @@ written_back l = record l { asked = length l.pending }
 
 -- the line after a fence: the stores that were asked for are in memory, and the room that they took is free again
 abbrev pub fenced : LineState → LineState
-fenced l = record { base = left l l.asked; pending = drop l.asked l.pending; asked = 0; spare = l.spare + l.asked }
+fenced l = record { base = survivor l l.asked; pending = drop l.asked l.pending; asked = 0; spare = l.spare + l.asked }
 
 -- a line with these words in memory, and nothing pending
 abbrev pub quiet_line : List ℕ → LineState
@@ -148,6 +148,10 @@ is_pending l = nat_lt 0 (length l.pending)
 -- whether a store is pending on the line that was not asked for
 abbrev pub is_unasked : LineState → Bool
 is_unasked l = nat_lt l.asked (length l.pending)
+
+-- whether a line of a bank has a store that was not asked for
+abbrev pub is_unasked_in : BankState → ℕ → Bool
+is_unasked_in bank line = is_unasked (line_at bank.lines line)
 
 -- how many lines have a store that was not asked for
 abbrev pub unasked : List LineState → ℕ

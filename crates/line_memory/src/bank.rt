@@ -1,30 +1,33 @@
 //! A bank: a list of lines with stores, write-backs and a fence. Lines are numbered from 0; a caller hands in only
-//! numbers of lines and words that are there.
+//! numbers of lines and words that are there. A bank keeps the numbers of the lines with something asked for, with a
+//! place for each line, so that a fence looks at no other line.
 
-ghost use Rattle.std.specs.Prelude.{◌≡◌, ◌<◌, ◌≤◌, ◌^◌, true, IsTrue, ◌↔◌, length, slice_get, Some, map, count_by, OnOk, OnErr, IfOk};
-ghost use Rattle.std.specs.List.{position};
-ghost use Rattle.line_memory.specs.Line.{bank_load, bank_stored, bank_written_back, bank_fenced, bank_with_spare, quiet_bank, quiet_line, fenced, store_to, line_at, is_pending, is_unasked, unasked, AreLines};
+ghost use Rattle.std.specs.Prelude.{◌≡◌, ◌<◌, ◌≤◌, ◌^◌, ◌++◌, [], ◌∷◌, IsTrue, length, slice_get, Some, map, if◌then◌else◌, OnOk, OnErr, IfOk, vec_len, vec_capacity};
+ghost use Rattle.line_memory.specs.Line.{bank_load, bank_stored, bank_written_back, bank_fenced, bank_with_spare, quiet_bank, quiet_line, fenced, store_to, line_at, AreLines};
+ghost use Rattle.line_memory.specs.Asked.{AreWithin, AreAllAsked};
 
 use crate::line::Line;
 use std::alloc::{AllocError, Global};
 use std::marker::Model;
 
-/// Lines, and how often one of them was written back.
+/// Lines, how often one of them was written back, and which of them have something asked for.
 #[derive(Drop)]
 pub struct Bank {
     lines: Vec<Line>,
     write_backs: u64,
+    asked: Vec<u32>,
 }
 
 impl Model for Bank {
-    ghost use Rattle.std.specs.Prelude.{length, ◌<◌, ◌^◌};
+    ghost use Rattle.std.specs.Prelude.{length, ◌<◌, ◌^◌, vec_capacity};
     ghost use Rattle.line_memory.specs.Line.{BankState, AreLines};
+    ghost use Rattle.line_memory.specs.Asked.{HasAsked};
 
     ghost Value = { BankState };
 
     ghost view = { λ a. record { lines = a.lines.items; write_backs = a.write_backs } };
 
-    ghost invariant = { λ a. (length a.lines.items < 2 ^ 32) × AreLines a.lines.items };
+    ghost invariant = { λ a. (length a.lines.items < 2 ^ 32) × AreLines a.lines.items × HasAsked a.lines.items a.asked.items (vec_capacity a.asked) };
 }
 
 impl Bank {
@@ -38,6 +41,7 @@ impl Bank {
         Ok(Bank {
             lines: lines_of(alloc, base.as_slice())?,
             write_backs: 0,
+            asked: Vec::with_capacity(alloc, base.len())?,
         })
     }
 
@@ -131,17 +135,20 @@ impl Bank {
         ensures is { self.new ≡ bank_written_back self.old line }
         ensures whole { AreLines self.new.lines }
     {
+        let is_first = self.lines[line as usize].is_first_ask();
         self.lines[line as usize].write_back();
+        note(&mut self.asked, line, is_first);
         self.write_backs = self.write_backs.saturating_add(1);
     }
 
     /// Moves the stores that were asked for into memory, on each line in their order. It takes no memory, and the places
-    /// of these stores are spare again.
+    /// of these stores are spare again. It looks only at lines with something asked for.
     pub fn fence(&mut self)
         ensures is { self.new ≡ bank_fenced self.old }
         ensures whole { AreLines self.new.lines }
     {
-        fence_lines(&mut self.lines);
+        fence_lines(&mut self.lines, self.asked.as_slice());
+        self.asked.clear();
     }
 
     /// How many write-backs were made, or 2^64 - 1 where they were more.
@@ -149,30 +156,6 @@ impl Bank {
         ensures { result ≡ self.now.write_backs }
     {
         self.write_backs
-    }
-
-    /// The first line with a pending store that was not asked for. It looks at the lines one after another.
-    pub fn next_unasked(&self) -> u32
-        requires { 0 < unasked self.now.lines }
-        ensures first { position is_unasked self.now.lines ≡ Some result }
-        ensures within { result < length self.now.lines }
-        ensures unasked { is_unasked (line_at self.now.lines result) ≡ true }
-    {
-        first_unasked(self.lines.as_slice())
-    }
-
-    /// Whether some line has a pending store that was not asked for.
-    pub fn is_any_unasked(&self) -> bool
-        ensures { IsTrue result ↔ (0 < unasked self.now.lines) }
-    {
-        is_any_unasked(self.lines.as_slice())
-    }
-
-    /// How many lines have a pending store.
-    pub fn count_pending(&self) -> u32
-        ensures { result ≡ count_by is_pending self.now.lines }
-    {
-        count_pending(self.lines.as_slice())
     }
 }
 
@@ -188,56 +171,33 @@ fn lines_of(alloc: Global, base: &[[u64; 8]]) -> Result<Vec<Line>, AllocError>
     Ok(lines)
 }
 
-/// Fences each line.
-fn fence_all(lines: &mut [Line])
+/// Notes the line, in the room that was made, where this is its first ask.
+fn note(asked: &mut Vec<u32>, line: u32, is_first: bool)
+    requires { IsTrue is_first → vec_len asked.old < vec_capacity asked.old }
+    ensures noted { asked.new.items ≡ (if is_first then asked.old.items ++ line ∷ [] else asked.old.items) }
+    ensures room { vec_capacity asked.new ≡ vec_capacity asked.old }
+{
+    if is_first {
+        asked.push_reserved(line);
+    }
+}
+
+/// Fences these lines, and so each line.
+fn fence_each(lines: &mut [Line], asked: &[u32])
+    requires within { AreWithin lines.old asked.now }
+    requires all { AreAllAsked lines.old asked.now }
     ensures { lines.new ≡ map fenced lines.old }
 {
-    for line in lines.iter_mut() {
-        line.fence();
+    for line in asked {
+        lines[*line as usize].fence();
     }
 }
 
-/// Fences each line of the list.
-fn fence_lines(lines: &mut Vec<Line>)
+/// Fences these lines of the list, and so each of it.
+fn fence_lines(lines: &mut Vec<Line>, asked: &[u32])
+    requires within { AreWithin lines.old.items asked.now }
+    requires all { AreAllAsked lines.old.items asked.now }
     ensures { lines.new.items ≡ map fenced lines.old.items }
 {
-    fence_all(lines.as_mut_slice());
-}
-
-/// The first line with a pending store that was not asked for.
-fn first_unasked(lines: &[Line]) -> u32
-    requires few { length lines.now < 2 ^ 32 }
-    requires some { 0 < unasked lines.now }
-    ensures first { position is_unasked lines.now ≡ Some result }
-    ensures within { result < length lines.now }
-    ensures unasked { is_unasked (line_at lines.now result) ≡ true }
-{
-    let mut i = 0u32;
-    for line in lines {
-        if line.is_unasked() {
-            return i;
-        }
-        i += 1;
-    }
-    0
-}
-
-/// Whether some line has a pending store that was not asked for.
-fn is_any_unasked(lines: &[Line]) -> bool
-    ensures { IsTrue result ↔ (0 < unasked lines.now) }
-{
-    for line in lines {
-        if line.is_unasked() {
-            return true;
-        }
-    }
-    false
-}
-
-/// How many lines have a pending store.
-fn count_pending(lines: &[Line]) -> u32
-    requires { length lines.now < 2 ^ 32 }
-    ensures { result ≡ count_by is_pending lines.now }
-{
-    lines.iter().filter(|line| line.is_pending()).count() as u32
+    fence_each(lines.as_mut_slice(), asked);
 }

@@ -1,7 +1,7 @@
 //! Laws on lines, each the contract of a function that does nothing. They say what a load gives, and what a store, a
 //! write-back and a fence do to the survivors: the words that a power cut can leave of a line.
 
-ghost use Rattle.line_memory.specs.Laws.{LoadIsWholeLaw, LeftNoneLaw, LeftAllLaw, LeftLengthLaw, LeftWordsLaw, LeftStoredLaw, LeftStoredLastLaw, WholeStoredLaw, LeftWrittenBackLaw, LeftFencedLaw, WholeFencedLaw, FencedAllLaw};
+ghost use Rattle.line_memory.specs.Laws.{LoadIsWholeLaw, LeftNoneLaw, LeftAllLaw, LeftLengthLaw, LeftWordsLaw, LeftStoredLaw, LeftStoredLastLaw, WholeStoredLaw, LeftWrittenBackLaw, LeftFencedLaw, WholeFencedLaw, FencedAllLaw, AllWriteBacksLaw};
 
 /// A load of a word is that word of the line with all its pending stores.
 pub fn load_law()
@@ -30,4 +30,9 @@ pub fn fence_laws()
     ensures left { LeftFencedLaw }
     ensures whole { WholeFencedLaw }
     ensures all { FencedAllLaw }
+{}
+
+/// The write-backs of a memory are those of its banks together, as far as they can be counted.
+pub fn count_law()
+    ensures { AllWriteBacksLaw }
 {}

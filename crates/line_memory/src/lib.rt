@@ -24,6 +24,6 @@ mod store;
 mod tests;
 
 pub use bank::Bank;
-pub use laws::{fence_laws, load_law, store_laws, survivor_laws};
+pub use laws::{count_law, fence_laws, load_law, store_laws, survivor_laws};
 pub use memory::Memory;
 pub use store::{Store, WORDS};

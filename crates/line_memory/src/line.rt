@@ -2,7 +2,8 @@
 //! and looks at no store. A store, a write-back and a fence take no memory, since the room for the stores is made before.
 
 ghost use Rattle.std.specs.Prelude.{◌≡◌, ◌+◌, ◌-◌, ◌<◌, ◌≤◌, ◌^◌, length, slice_index, slice_set, slice_get, Some, OnOk, OnErr};
-ghost use Rattle.line_memory.specs.Line.{applied, loaded, stored, store_to, written_back, fenced, quiet_line, with_spare, is_pending, is_unasked, IsLine};
+ghost use Rattle.line_memory.specs.Line.{applied, loaded, stored, store_to, written_back, fenced, quiet_line, with_spare, IsLine};
+ghost use Rattle.line_memory.specs.Asked.{is_first_ask};
 
 use crate::store::{Store, WORDS};
 use std::alloc::{AllocError, Global};
@@ -90,18 +91,11 @@ impl Line {
         self.room
     }
 
-    /// Whether a store is pending.
-    pub fn is_pending(&self) -> bool
-        ensures { result ≡ is_pending self.now }
+    /// Whether a write-back asks for a first store: one is pending, and none is asked for.
+    pub fn is_first_ask(&self) -> bool
+        ensures { result ≡ is_first_ask self.now }
     {
-        !self.pending.is_empty()
-    }
-
-    /// Whether a store is pending that was not asked for.
-    pub fn is_unasked(&self) -> bool
-        ensures { result ≡ is_unasked self.now }
-    {
-        self.asked < self.pending.len()
+        self.asked == 0 && !self.pending.is_empty()
     }
 
     /// Makes room for `n` more stores. It refuses also where the stores would be too many to count.

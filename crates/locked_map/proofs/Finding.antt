@@ -1,8 +1,8 @@
 -- The walk, step by step.
-use Rattle.std.proofs.Common.{◌≡◌, ℕ, ◌-◌, ◌<◌, ◌≤◌, ◌≢◌, ◌==◌, zero, suc, Bool, arith, ap, sym, ◌∙◌, subst, if◌then◌else◌, eq-eqb}
+use Rattle.std.proofs.Common.{◌≡◌, ℕ, ◌-◌, ◌<◌, ◌≤◌, ◌≢◌, ◌==◌, zero, suc, Bool, arith, refl, ap, sym, ◌∙◌, subst, if◌then◌else◌, eq-eqb}
 use Rattle.std.proofs.lemmas.Bool.{ne_eqb}
 use Rattle.room_model.specs.Writes.{line_with, line_before}
-use Rattle.room_laws.specs.Walks.{IsWalk}
+use Rattle.room_model.specs.Walks.{IsWalk}
 
 -- what is left of the walk comes to what the whole comes to
 pub record IsFinding (r : ℕ → ℕ → ℕ) (lines key head left before line : ℕ) : Type 0 where
@@ -47,18 +47,15 @@ pub in_room : (r : ℕ → ℕ → ℕ) (lines left line : ℕ) → 0 < left →
 in_room r lines zero line pos some h = absurd (omega arith)
 in_room r lines (suc m) line pos some h = (h some).0
 
--- and so is the next, or it is 0
-pub next_small : (r : ℕ → ℕ → ℕ) (lines left line n : ℕ) → lines ≤ n → 0 < n → 0 < left → line ≢ 0 → IsWalk r lines left line → r line 2 < n
-next_small r lines zero line n fits pos some_left some h = absurd (omega arith)
-next_small r lines (suc zero) line n fits pos some_left some h = let e : r line 2 ≡ 0 = (h some).1 in omega (arith, e, pos)
-next_small r lines (suc (suc m)) line n fits pos some_left some h = by_cases (r line 2) (h some).1
-  where
-    by_cases : (k : ℕ) → IsWalk r lines (suc m) k → k < n
-    by_cases zero w = pos
-    by_cases (suc j) w = let lt = (w (λ (e : suc j ≡ 0). omega (arith, e))).0 in omega (arith, lt, fits)
-
 -- the first line of a walk is one of the room, or 0
 pub first_small : (r : ℕ → ℕ → ℕ) (lines left first n : ℕ) → lines ≤ n → 0 < n → IsWalk r lines left first → first < n
 first_small r lines zero first n fits pos w = omega (arith, w, pos)
 first_small r lines (suc m) zero n fits pos w = pos
 first_small r lines (suc m) (suc k) n fits pos w = let lt = (w (λ (e : suc k ≡ 0). omega (arith, e))).0 in omega (arith, lt, fits)
+
+-- a walk that meets no more has come to its end
+pub at_stop : (r : ℕ → ℕ → ℕ) (lines key head left before line : ℕ) → (line ≢ 0 → left ≡ 0) → IsFinding r lines key head left before line → IsFound r lines key head 0 before
+at_stop r lines key head left before zero ends h = at_zero r lines key head left before 0 refl h
+at_stop r lines key head left before (suc k) ends h =
+    let none : left ≡ 0 = ends (λ (e : suc k ≡ 0). omega (arith, e)) in
+    at_end r lines key head before (suc k) (subst (λ (n : ℕ). IsFinding r lines key head n before (suc k)) none h)

@@ -7,9 +7,10 @@ use Rattle.room_model.specs.declared.write.PlannedStore.{PlannedStore}
 use Rattle.room_model.specs.Formatted.{formatted}
 use Rattle.incll_var.specs.declared.state.CellState.{CellState}
 use Rattle.incll_var.specs.declared.state.CellState.TheVariants.{Running, Closing, Saved}
-use Rattle.incll_var.specs.Cells.{CellBankState, IsCellBank, IsSaved, HasSameRecords, cells_in, closing_state, played}
+use Rattle.incll_var.specs.Cells.{CellBankState, IsCellBank, IsSaved, cells_in, closing_state, played}
 use Rattle.command_room.specs.Room.{MayBeRoom}
 use Rattle.command_room.proofs.FormattedRooms.{formatted_may}
+use Rattle.room_model.specs.Chains.{HasSameRecords}
 
 -- where the lines that there are load as formatted, all do
 pub formatted_all : (bank : BankState) (n : ℕ) → 0 < length bank.lines → length bank.lines ≤ n → ((j w : ℕ) → j < n → w < 3 → bank_load bank j w ≡ formatted 9 j w) → HasSameRecords (bank_load bank) (formatted 9)

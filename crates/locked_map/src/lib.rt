@@ -22,6 +22,7 @@
 mod find;
 mod listing;
 mod map_room;
+mod node;
 mod plans;
 #[cfg(test)]
 mod tests;

@@ -1,33 +1,37 @@
 //! A map room: a command room whose number is a shard's.
 
-ghost use Rattle.std.specs.Prelude.{◌≡◌, ◌<◌, ◌≤◌, ◌+◌, [], None, Some, length, count_by, IsTrue, ◌↔◌, OnOk, OnErr, IfOk};
+ghost use Rattle.std.specs.Prelude.{◌≡◌, ◌<◌, [], None, Some, length, IsTrue, ◌↔◌, OnOk, OnErr, IfOk};
 ghost use Rattle.seq_object.specs.Object.{reply_to, contents_after, room_of};
 ghost use Rattle.seq_object.specs.Plain.{listed};
-ghost use Rattle.line_memory.specs.Line.{bank_load, is_pending, unasked};
-ghost use Rattle.incll_var.specs.Restore.{next_step};
-ghost use Rattle.incll_var.specs.Cells.{IsRunning, IsSaved, HasSameRecords, MayEnter, MayClose, MayRestore, IsClosing, HasSameCells, WritesOneBack, closing_state, after_next};
-ghost use Rattle.command_room.specs.Room.{MayBeRoom, contents_in, held_of, sizes_in, new_room, entered, closed, with_cells, in_state, on_bank, begun, stepped, noted};
-ghost use Rattle.locked_map.specs.Room.{IsMap, IsAtRest, commanded, with_spare};
+ghost use Rattle.line_memory.specs.Line.{bank_load};
+ghost use Rattle.incll_var.specs.Cells.{IsRunning, HasSameCells};
+ghost use Rattle.planned_cells.specs.Planned.{IsAtRest};
+ghost use Rattle.command_room.specs.Room.{MayBeRoom, contents_in, memory_words_of, sizes_in, new_room, begun, commanded, refused};
+ghost use Rattle.locked_map.specs.Room.{IsMap};
 
 use crate::listing::listed_pairs;
 use crate::plans::plan_command;
-use command_room::CommandRoom;
+use command_room::{CommandRoom, RunsCommands};
 use incll_var::{CellBank, RestoreStep};
+use line_memory::Bank;
+use planned_cells::CellRoom;
+use room_model::LIVE_HEADS;
 use seq_object::{Command, Entry, Noted, Pair, Reply, Settings};
 use std::alloc::{AllocError, Global};
 use std::marker::Model;
 
-/// The room of a shard.
+/// The room of a shard. It is entered, closed and restored as each room of cells, by the
+/// calls of `CellRoom`, and a command that was begun is carried out by those of `RunsCommands`.
 #[derive(Drop)]
 pub struct MapRoom {
     room: CommandRoom,
 }
 
 impl Model for MapRoom {
-    ghost use Rattle.command_room.specs.declared.room.CommandRoom.{CommandRoom as RoomState};
+    ghost use Rattle.command_room.specs.Room.{CommandRoomState};
     ghost use Rattle.locked_map.specs.Room.{IsMap};
 
-    ghost Value = { RoomState };
+    ghost Value = { CommandRoomState };
 
     ghost view = { λ a. a.room };
 
@@ -48,18 +52,6 @@ impl MapRoom {
         }
     }
 
-    /// Lets the cells be written to in this epoch: a later one than was saved, or the one that runs. When a later one begins,
-    /// what memory holds of the room at that epoch is what loads give.
-    pub fn enter(&mut self, epoch: u32)
-        requires { MayEnter self.old.cells.state epoch }
-        ensures is { self.new ≡ entered self.old epoch }
-        ensures contents { contents_in self.new ≡ contents_in self.old }
-        ensures begins { IsSaved self.old.cells.state → HasSameRecords (held_of self.new) (bank_load self.old.cells.bank) }
-        ensures room { IsMap self.new }
-    {
-        self.room.enter(epoch);
-    }
-
     /// Begins a command of the room's shard, and gives its reply, which is settled now: a put of a new key is refused as
     /// `Full` exactly where the shard has as many keys as the room has lines for nodes. It plans the command's stores and
     /// makes room for all of them and for the entry, before any store. Refused, for want of memory, it may have made some
@@ -73,138 +65,115 @@ impl MapRoom {
         ensures ok { IfOk result (λ reply. self.new ≡ begun (commanded self.old command) self.new.cells.bank self.new.history.spare command reply) }
         ensures contents { OnOk result (contents_in self.new ≡ contents_after (sizes_in self.old) (contents_in self.old) command) }
 
-        ensures refused { OnErr result (self.new ≡ with_spare self.old self.new.plan.spare self.new.cells.bank self.new.history.spare) }
+        ensures refused { OnErr result (self.new ≡ refused self.old self.new.plan.spare self.new.cells.bank self.new.history.spare) }
         ensures kept { OnErr result (contents_in self.new ≡ contents_in self.old) }
 
         ensures same { HasSameCells self.old.cells.bank self.new.cells.bank }
         ensures loads { bank_load self.new.cells.bank ≡ bank_load self.old.cells.bank }
-        ensures held { held_of self.new ≡ held_of self.old }
+        ensures in_memory { memory_words_of self.new ≡ memory_words_of self.old }
         ensures room { IsMap self.new }
     {
-        let settings = self.room.settings;
-        match plan_command(settings, &self.room.cells, command, &mut self.room.plan) {
+        let mut plan = self.room.take_plan();
+        match plan_command(
+            LIVE_HEADS,
+            self.room.settings(),
+            self.room.cells(),
+            command,
+            &mut plan,
+        ) {
             Ok(reply) => {
-                self.room.begin_planned(command, reply)?;
+                self.room.begin_planned(plan, command, reply)?;
                 Ok(reply)
             }
             Err(error) => {
-                self.room.plan.clear();
+                self.room.put_back(plan);
                 Err(error)
             }
         }
-    }
-
-    /// How many stores of the command under way are left.
-    pub fn left(&self) -> u32
-        ensures left { result ≡ length self.now.plan.stores }
-        ensures room { IsMap self.now }
-    {
-        self.room.left()
-    }
-
-    /// Makes the next store of the command under way, and says whether stores are left. It takes no memory.
-    pub fn step(&mut self) -> bool
-        requires { 0 < length self.old.plan.stores }
-        ensures is { self.new ≡ stepped self.old }
-        ensures more { IsTrue result ↔ (0 < length self.new.plan.stores) }
-        ensures contents { contents_in self.new ≡ contents_in self.old }
-        ensures held { held_of self.new ≡ held_of self.old }
-        ensures room { IsMap self.new }
-    {
-        self.room.step()
-    }
-
-    /// Ends the command under way with its entry, which has its command and reply and this place in the history of the life.
-    /// It takes no memory.
-    pub fn note(&mut self, ticket: u64, entry: Entry)
-        requires left { self.old.plan.stores ≡ [] }
-        requires under { self.old.under_way ≡ Some (record { command = entry.command; reply = entry.reply }) }
-        ensures is { self.new ≡ noted self.old ticket entry }
-        ensures contents { contents_in self.new ≡ contents_in self.old }
-        ensures room { IsMap self.new }
-    {
-        self.room.note(ticket, entry);
-    }
-
-    /// The entries of the commands that are done, in order.
-    pub fn history(&self) -> &[Noted]
-        ensures entries { result.now ≡ self.now.history.entries }
-        ensures room { IsMap self.now }
-    {
-        self.room.history()
     }
 
     /// The pairs of the room, in the order of their keys. While stores are left, and in torn cells, the loads stand for no
     /// map: the call then gives what walks over them meet, of which nothing is promised. The cause of a refusal is want of
     /// memory.
     pub fn entries(&self, alloc: Global) -> Result<Vec<Pair>, AllocError>
-        ensures pairs { IsAtRest self.now → IfOk result (λ pairs. pairs.items ≡ listed (contents_in self.now).pairs) }
+        ensures pairs { IsAtRest self.now.cells self.now.plan → IfOk result (λ pairs. pairs.items ≡ listed (contents_in self.now).pairs) }
         ensures room { IsMap self.now }
     {
-        listed_pairs(alloc, &self.room.cells)
+        listed_pairs(alloc, LIVE_HEADS, self.room.cells())
+    }
+}
+
+impl RunsCommands for MapRoom {
+    ghost state = { λ s. s };
+
+    fn left(&self) -> u32 {
+        self.room.left()
     }
 
-    /// Ends the stores of the epoch, and says how many lines were stored to in it. Where none was, the cells are saved.
-    pub fn close_begin(&mut self) -> u32
-        requires idle { self.old.under_way ≡ None }
-        requires may { MayClose self.old.cells.state }
-        ensures count { result ≡ count_by is_pending self.old.cells.bank.lines }
-        ensures unasked { unasked self.old.cells.bank.lines ≡ result }
-        ensures is { self.new ≡ in_state self.old (closing_state result self.old.cells.state) }
-        ensures contents { contents_in self.new ≡ contents_in self.old }
-        ensures held { held_of self.new ≡ held_of self.old }
-        ensures room { IsMap self.new }
-    {
+    fn step(&mut self) -> bool {
+        self.room.step()
+    }
+
+    fn note(&mut self, ticket: u64, entry: Entry) {
+        self.room.note(ticket, entry);
+    }
+
+    fn history(&self) -> &[Noted] {
+        self.room.history()
+    }
+}
+
+impl CellRoom for MapRoom {
+    ghost use Rattle.std.specs.Prelude.{◌≡◌, None};
+    ghost use Rattle.command_room.specs.Room.{words_of, with_cells};
+    ghost use Rattle.locked_map.specs.Room.{IsMap};
+
+    ghost cells = { λ s. s.cells };
+
+    ghost with_cells = { with_cells };
+
+    ghost words = { words_of };
+
+    ghost IsIdle = { λ s. s.under_way ≡ None };
+
+    ghost IsWhole = { IsMap };
+
+    ghost HasCells = { λ s. Unit {0} };
+
+    fn enter(&mut self, epoch: u32) {
+        self.room.enter(epoch);
+    }
+
+    fn close_begin(&mut self) -> u32 {
         self.room.close_begin()
     }
 
-    /// Writes a line back that was stored to in the epoch and not yet written back, and says whether another is left. Which
-    /// of them it takes is left open.
-    pub fn close_next(&mut self) -> bool
-        requires closing { IsClosing self.old.cells.state }
-        requires left { 0 < unasked self.old.cells.bank.lines }
-        ensures line { WritesOneBack self.old.cells.bank self.new.cells.bank }
-        ensures is { self.new ≡ on_bank self.old self.new.cells.bank }
-        ensures fewer { unasked self.old.cells.bank.lines ≡ unasked self.new.cells.bank.lines + 1 }
-        ensures more { IsTrue result ↔ (0 < unasked self.new.cells.bank.lines) }
-        ensures contents { contents_in self.new ≡ contents_in self.old }
-        ensures held { held_of self.new ≡ held_of self.old }
-        ensures room { IsMap self.new }
-    {
+    fn close_next(&mut self) -> bool {
         self.room.close_next()
     }
 
-    /// Moves all that is pending into memory: the cells are saved.
-    pub fn close_fence(&mut self)
-        requires closing { IsClosing self.old.cells.state }
-        requires asked { unasked self.old.cells.bank.lines ≡ 0 }
-        ensures is { self.new ≡ closed self.old }
-        ensures contents { contents_in self.new ≡ contents_in self.old }
-        ensures held { held_of self.new ≡ held_of self.old }
-        ensures room { IsMap self.new }
-    {
+    fn close_fence(&mut self) {
         self.room.close_fence();
     }
 
-    /// Does the next event of the restore; where none is left the cells are saved. On cells that are saved it does nothing.
-    /// It takes no memory.
-    pub fn restore_next(&mut self) -> RestoreStep
-        requires { MayRestore self.old.cells.state }
-        ensures step { result ≡ next_step self.old.cells.todo }
-        ensures is { self.new ≡ with_cells self.old (after_next self.old.cells) }
-        ensures contents { contents_in self.new ≡ contents_in self.old }
-        ensures held { held_of self.new ≡ held_of self.old }
-        ensures room { IsMap self.new }
-    {
+    fn restore_next(&mut self) -> RestoreStep {
         self.room.restore_next()
     }
 
-    /// The cells of the room, in any state. A command under way is given up where it stands, and the entries too.
-    pub fn into_cells(self) -> CellBank
-        ensures cells { result ≡ self.cells }
-        ensures room { IsMap self }
-    {
+    fn is_idle(&self) -> bool {
+        self.room.is_idle()
+    }
+
+    fn bank(&self) -> &Bank {
+        self.room.bank()
+    }
+
+    fn load(&self, line: u32, word: u32) -> u64 {
+        self.room.load(line, word)
+    }
+
+    fn into_bank(self) -> Bank {
         let MapRoom { room } = self;
-        room.into_cells()
+        room.into_bank()
     }
 }

@@ -5,44 +5,36 @@ ghost use Rattle.std.specs.Prelude.{◌≡◌, ◌≢◌, ◌+◌, ◌<◌, ◌�
 ghost use Rattle.line_memory.specs.Line.{bank_load};
 ghost use Rattle.seq_object.specs.Sizes.{sizes_of};
 ghost use Rattle.seq_object.specs.Object.{room_of};
-ghost use Rattle.room_model.specs.MapRoom.{map_layout, bucket_of};
+ghost use Rattle.room_model.specs.MapRoom.{layout_of, bucket_of};
 ghost use Rattle.room_model.specs.Writes.{write, unlink_write, answer_of};
 ghost use Rattle.incll_var.specs.Cells.{IsRunning};
 ghost use Rattle.line_alloc.specs.Headers.{planned};
 ghost use Rattle.locked_map.specs.Plans.{MayPlan, IsPlace, IsPlanOf};
 
 use crate::find::{Place, place_of};
+use crate::node::{KEY, NEXT, VALUE};
 use incll_var::{CellBank, Plan};
 use line_alloc::{TakeRefusal, plan_count, plan_give, plan_take};
+use room_model::{COUNT, HEADER, Heads};
 use seq_object::{Command, Reply, Settings};
 use std::alloc::AllocError;
 
-/// The line of the header, and its word that counts the keys.
-const HEADER: u32 = 0;
-
-const COUNT: u32 = 2;
-/// The words of a node.
-const KEY: u32 = 0;
-
-const VALUE: u32 = 1;
-
-const NEXT: u32 = 2;
-
-/// Plans a command, and gives its reply. Refused, for want of memory, the plan is to be dropped.
+/// Plans a command in a room with its heads there, and gives its reply. Refused, for want of memory, the plan is to be dropped.
 pub(crate) fn plan_command(
+    heads: Heads,
     settings: Settings,
     cells: &CellBank,
     command: Command,
     plan: &mut Plan,
 ) -> Result<Reply, AllocError>
-    requires room { MayPlan (sizes_of settings) cells.now }
+    requires room { MayPlan (layout_of heads) (sizes_of settings) cells.now }
     requires map { room_of (sizes_of settings) command < settings.shards }
-    ensures { IfOk result (λ reply. IsPlanOf (sizes_of settings) cells.now plan.old plan.new command reply) }
+    ensures { IfOk result (λ reply. IsPlanOf (layout_of heads) (sizes_of settings) cells.now plan.old plan.new command reply) }
 {
     match command {
-        Command::Put(key, value) => plan_put(settings, cells, key, value, plan),
-        Command::Get(key) => Ok(reply_to_get(settings, cells, key)),
-        Command::Del(key) => plan_del(settings, cells, key, plan),
+        Command::Put(key, value) => plan_put(heads, settings, cells, key, value, plan),
+        Command::Get(key) => Ok(reply_to_get(heads, settings, cells, key)),
+        Command::Del(key) => plan_del(heads, settings, cells, key, plan),
         Command::Enq(_) => unreachable!(),
         Command::Deq => unreachable!(),
         Command::Take => unreachable!(),
@@ -51,18 +43,19 @@ pub(crate) fn plan_command(
 
 /// Plans to set the value of a key.
 fn plan_put(
+    heads: Heads,
     settings: Settings,
     cells: &CellBank,
     key: u64,
     value: u64,
     plan: &mut Plan,
 ) -> Result<Reply, AllocError>
-    requires { MayPlan (sizes_of settings) cells.now }
-    ensures { IfOk result (λ reply. IsPlanOf (sizes_of settings) cells.now plan.old plan.new (Command.Put key value) reply) }
+    requires { MayPlan (layout_of heads) (sizes_of settings) cells.now }
+    ensures { IfOk result (λ reply. IsPlanOf (layout_of heads) (sizes_of settings) cells.now plan.old plan.new (Command.Put key value) reply) }
 {
-    let place = place_of(settings, cells, key);
+    let place = place_of(heads, settings, cells, key);
     if place.node == 0 {
-        return plan_new(settings, cells, &place, key, value, plan);
+        return plan_new(heads, settings, cells, &place, key, value, plan);
     }
     let old = cells.load(place.node, VALUE);
     cells.plan_write(place.node, VALUE, value, plan)?;
@@ -71,6 +64,7 @@ fn plan_put(
 
 /// Plans a node for a key that has none, where a line is left.
 fn plan_new(
+    heads: Heads,
     settings: Settings,
     cells: &CellBank,
     place: &Place,
@@ -78,10 +72,10 @@ fn plan_new(
     value: u64,
     plan: &mut Plan,
 ) -> Result<Reply, AllocError>
-    requires room { MayPlan (sizes_of settings) cells.now }
-    requires place { IsPlace (sizes_of settings) (bank_load cells.now.bank) key place.now }
+    requires room { MayPlan (layout_of heads) (sizes_of settings) cells.now }
+    requires place { IsPlace (layout_of heads) (sizes_of settings) (bank_load cells.now.bank) key place.now }
     requires none { place.now.node ≡ 0 }
-    ensures { IfOk result (λ reply. IsPlanOf (sizes_of settings) cells.now plan.old plan.new (Command.Put key value) reply) }
+    ensures { IfOk result (λ reply. IsPlanOf (layout_of heads) (sizes_of settings) cells.now plan.old plan.new (Command.Put key value) reply) }
 {
     match plan_take(cells, plan) {
         Ok(line) => {
@@ -105,23 +99,25 @@ fn plan_node(
     requires running { IsRunning cells.now.state }
     requires line { line < length cells.now.bank.lines }
     requires head { place.now.head_line < length cells.now.bank.lines }
-    requires count { bank_load cells.now.bank 0 2 < 65536 }
-    ensures { OnOk result (plan.new ≡ planned cells.now plan.old (write line 0 key ∷ write line 1 value ∷ write line 2 place.now.first ∷ write place.now.head_line 0 line ∷ write 0 2 (bank_load cells.now.bank 0 2 + 1) ∷ [])) }
+    requires word { place.now.head_word < 3 }
+    requires count { bank_load cells.now.bank 0 2 < length cells.now.bank.lines }
+    ensures { OnOk result (plan.new ≡ planned cells.now plan.old (write line 0 key ∷ write line 1 value ∷ write line 2 place.now.first ∷ write place.now.head_line place.now.head_word line ∷ write 0 2 (bank_load cells.now.bank 0 2 + 1) ∷ [])) }
 {
+    let _lines = cells.lines();
     let count = cells.load(HEADER, COUNT);
     cells.plan_write(line, KEY, key, plan)?;
     cells.plan_write(line, VALUE, value, plan)?;
     cells.plan_write(line, NEXT, place.first, plan)?;
-    cells.plan_write(place.head_line, 0, u64::from(line), plan)?;
+    cells.plan_write(place.head_line, place.head_word, u64::from(line), plan)?;
     plan_count(cells, count + 1, plan)
 }
 
 /// What the room replies to a look at a key. Nothing is planned for it.
-fn reply_to_get(settings: Settings, cells: &CellBank, key: u64) -> Reply
-    requires { MayPlan (sizes_of settings) cells.now }
-    ensures { answer_of map_layout (sizes_of settings) (bank_load cells.now.bank) (Command.Get key) ≡ Some result }
+fn reply_to_get(heads: Heads, settings: Settings, cells: &CellBank, key: u64) -> Reply
+    requires { MayPlan (layout_of heads) (sizes_of settings) cells.now }
+    ensures { answer_of (layout_of heads) (sizes_of settings) (bank_load cells.now.bank) (Command.Get key) ≡ Some result }
 {
-    let place = place_of(settings, cells, key);
+    let place = place_of(heads, settings, cells, key);
     if place.node == 0 {
         return Reply::Absent;
     }
@@ -130,21 +126,22 @@ fn reply_to_get(settings: Settings, cells: &CellBank, key: u64) -> Reply
 
 /// Plans to remove a key.
 fn plan_del(
+    heads: Heads,
     settings: Settings,
     cells: &CellBank,
     key: u64,
     plan: &mut Plan,
 ) -> Result<Reply, AllocError>
-    requires { MayPlan (sizes_of settings) cells.now }
-    ensures { IfOk result (λ reply. IsPlanOf (sizes_of settings) cells.now plan.old plan.new (Command.Del key) reply) }
+    requires { MayPlan (layout_of heads) (sizes_of settings) cells.now }
+    ensures { IfOk result (λ reply. IsPlanOf (layout_of heads) (sizes_of settings) cells.now plan.old plan.new (Command.Del key) reply) }
 {
-    let place = place_of(settings, cells, key);
+    let place = place_of(heads, settings, cells, key);
     if place.node == 0 {
         return Ok(Reply::Absent);
     }
     let value = cells.load(place.node, VALUE);
     let count = cells.load(HEADER, COUNT);
-    plan_unlink(settings, cells, &place, key, plan)?;
+    plan_unlink(heads, settings, cells, &place, key, plan)?;
     plan_give(cells, place.node, plan)?;
     plan_count(cells, count - 1, plan)?;
     Ok(Reply::Gone(value))
@@ -152,21 +149,22 @@ fn plan_del(
 
 /// Plans to take the node of a key out of its chain.
 fn plan_unlink(
+    heads: Heads,
     settings: Settings,
     cells: &CellBank,
     place: &Place,
     key: u64,
     plan: &mut Plan,
 ) -> Result<(), AllocError>
-    requires room { MayPlan (sizes_of settings) cells.now }
-    requires place { IsPlace (sizes_of settings) (bank_load cells.now.bank) key place.now }
+    requires room { MayPlan (layout_of heads) (sizes_of settings) cells.now }
+    requires place { IsPlace (layout_of heads) (sizes_of settings) (bank_load cells.now.bank) key place.now }
     requires some { place.now.node ≢ 0 }
-    ensures { OnOk result (plan.new ≡ planned cells.now plan.old (unlink_write map_layout (bank_load cells.now.bank) (bucket_of (sizes_of settings) key) place.now.before place.now.node ∷ [])) }
+    ensures { OnOk result (plan.new ≡ planned cells.now plan.old (unlink_write (layout_of heads) (bank_load cells.now.bank) (bucket_of (sizes_of settings) key) place.now.before place.now.node ∷ [])) }
 {
     let _shards = settings.shards;
     let next = cells.load(place.node, NEXT);
     if place.before == 0 {
-        return cells.plan_write(place.head_line, 0, next, plan);
+        return cells.plan_write(place.head_line, place.head_word, next, plan);
     }
     cells.plan_write(place.before, NEXT, next, plan)
 }

@@ -6,12 +6,15 @@ ghost use Rattle.seq_object.specs.Sizes.{sizes_of};
 ghost use Rattle.seq_object.specs.Object.{room_of};
 ghost use Rattle.line_memory.specs.Line.{bank_load};
 ghost use Rattle.room_model.specs.Formatted.{formatted};
-ghost use Rattle.incll_var.specs.Cells.{IsRunning, AreSettled, HasSameRecords};
+ghost use Rattle.incll_var.specs.Cells.{IsRunning, AreSettled};
 ghost use Rattle.locked_map.specs.Tests.{IsIdle, HasFinished};
+ghost use Rattle.room_model.specs.Chains.{HasSameRecords};
 
 use crate::MapRoom;
+use command_room::RunsCommands as _;
 use incll_var::{CellBank, CellState, RestoreStep};
 use line_memory::Bank;
+use planned_cells::CellRoom;
 use seq_object::{Command, Entry, Pair, Reply, Settings};
 use std::alloc::{AllocError, Global};
 use std::process::Abort;
@@ -74,7 +77,7 @@ fn map_room(rt: &impl Abort, alloc: Global) -> Result<MapRoom, AllocError>
     ensures idle { IfOk result (λ room. IsIdle SETTINGS room) }
 {
     let bank = formatted_bank(rt, alloc)?;
-    let cells = CellBank::clean(alloc, bank, 0);
+    let cells = CellBank::clean(alloc, bank, 0)?;
     let mut room = MapRoom::of(alloc, cells, SETTINGS, 0);
     room.enter(1);
     Ok(room)
@@ -180,7 +183,7 @@ fn two_epochs(rt: HostRuntime) -> Result<(), Fail> {
     assert!(rt; room.restore_next() == RestoreStep::Finished);
     let pairs = room.entries(alloc)?;
     assert!(rt; pairs.as_slice() == [Pair { key: 6, value: 8 }].as_slice());
-    let bank = room.into_cells().into_bank();
+    let bank = room.into_bank();
     assert!(rt; bank.lines() > 9);
     assert_eq!(rt; bank.base(9), [6, 8, 0, 5, 7, 0, 2, 0]);
     Ok(())

@@ -1,5 +1,4 @@
 pub mod Commands
 pub mod Queues
 pub mod Begins
-pub mod Walks
 pub mod TestRooms

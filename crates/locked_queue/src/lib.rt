@@ -21,7 +21,6 @@
 
 mod laws;
 mod plans;
-mod reads;
 mod room;
 #[cfg(test)]
 mod tests;

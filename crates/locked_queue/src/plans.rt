@@ -3,21 +3,20 @@
 
 ghost use Rattle.std.specs.Prelude.{◌≡◌, ◌≢◌, ◌<◌, ◌≤◌, ◌+◌, ◌-◌, ◌∷◌, ◌++◌, [], length, OnOk, IfOk};
 ghost use Rattle.line_memory.specs.Line.{bank_load};
-ghost use Rattle.room_model.specs.Writes.{write, link_writes, first_writes, give_writes, deq_item, deq_writes};
+ghost use Rattle.seq_object.specs.Sizes.{sizes_of};
+ghost use Rattle.seq_object.specs.Object.{room_of};
+ghost use Rattle.room_model.specs.MapRoom.{live_layout};
+ghost use Rattle.room_model.specs.Writes.{write, writes_of, answer_of, enq_writes, link_writes, deq_writes, deq_item, first_writes};
 ghost use Rattle.incll_var.specs.Cells.{IsRunning};
 ghost use Rattle.line_alloc.specs.Headers.{planned};
-ghost use Rattle.locked_queue.specs.Plans.{AreEnds, back_writes, back_reply, front_item, queue_writes, queue_answer};
+ghost use Rattle.locked_queue.specs.Plans.{MayPlan};
 
 use incll_var::{CellBank, Plan};
 use line_alloc::{TakeRefusal, plan_count, plan_give, plan_take};
-use room_model::Write;
-use seq_object::{Command, Reply};
+use room_model::{COUNT, HEADER, Write};
+use seq_object::{Command, Reply, Settings};
 use std::alloc::AllocError;
 
-/// The line of the header.
-const HEADER: u32 = 0;
-/// The word of the header that counts the items.
-const COUNT: u32 = 2;
 /// The line of the ends.
 const ENDS: u32 = 1;
 /// The word of the ends that names the first node, and 0 where the queue is empty.
@@ -29,38 +28,42 @@ const ITEM: u32 = 0;
 /// The word of a node that names the next one, and 0 in the last.
 const NEXT: u32 = 1;
 
-/// Plans a command of the queue, and gives what the room answers to it: nothing to a take where the queue is empty, or to a
-/// command of the map, and nothing is planned then.
-pub fn plan_command(
+/// Plans a command of the queue, and gives what the room answers to it: nothing to a take where the queue is empty, and nothing
+/// is planned then. A command of the map never comes here.
+pub(crate) fn plan_command(
+    settings: Settings,
     cells: &CellBank,
     command: Command,
     plan: &mut Plan,
 ) -> Result<Option<Reply>, AllocError>
-    requires running { IsRunning cells.now.state }
-    requires ends { AreEnds (length cells.now.bank.lines) (bank_load cells.now.bank) }
-    ensures answer { IfOk result (λ answer. answer ≡ queue_answer (length cells.now.bank.lines) (bank_load cells.now.bank) command) }
-    ensures stores { OnOk result (plan.new ≡ planned cells.now plan.old (queue_writes (length cells.now.bank.lines) (bank_load cells.now.bank) command)) }
+    requires room { MayPlan (sizes_of settings) cells.now }
+    requires queue { room_of (sizes_of settings) command ≡ settings.shards }
+    ensures answer { IfOk result (λ answer. answer ≡ answer_of live_layout (sizes_of settings) (bank_load cells.now.bank) command) }
+    ensures stores { OnOk result (plan.new ≡ planned cells.now plan.old (writes_of live_layout (sizes_of settings) (bank_load cells.now.bank) command)) }
 {
     match command {
-        Command::Enq(value) => Ok(Some(plan_back(cells, value, plan)?)),
-        Command::Deq => match plan_front(cells, plan)? {
-            Some(item) => Ok(Some(Reply::Found(item))),
+        Command::Enq(value) => Ok(Some(plan_enq(settings, cells, value, plan)?)),
+        Command::Deq => match plan_deq(settings, cells, plan)? {
+            Some(reply) => Ok(Some(reply)),
             None => Ok(Some(Reply::Empty)),
         },
-        Command::Take => match plan_front(cells, plan)? {
-            Some(item) => Ok(Some(Reply::Found(item))),
-            None => Ok(None),
-        },
-        Command::Put(_, _) | Command::Get(_) | Command::Del(_) => Ok(None),
+        Command::Take => plan_deq(settings, cells, plan),
+        Command::Put(_, _) => unreachable!(),
+        Command::Get(_) => unreachable!(),
+        Command::Del(_) => unreachable!(),
     }
 }
 
 /// Plans an item at the back, where a line is left for it, and gives the reply.
-fn plan_back(cells: &CellBank, value: u64, plan: &mut Plan) -> Result<Reply, AllocError>
-    requires running { IsRunning cells.now.state }
-    requires ends { AreEnds (length cells.now.bank.lines) (bank_load cells.now.bank) }
-    ensures reply { IfOk result (λ reply. reply ≡ back_reply (length cells.now.bank.lines) (bank_load cells.now.bank)) }
-    ensures stores { OnOk result (plan.new ≡ planned cells.now plan.old (back_writes (length cells.now.bank.lines) (bank_load cells.now.bank) value)) }
+fn plan_enq(
+    settings: Settings,
+    cells: &CellBank,
+    value: u64,
+    plan: &mut Plan,
+) -> Result<Reply, AllocError>
+    requires { MayPlan (sizes_of settings) cells.now }
+    ensures reply { IfOk result (λ reply. answer_of live_layout (sizes_of settings) (bank_load cells.now.bank) (Command.Enq value) ≡ Some reply) }
+    ensures stores { OnOk result (plan.new ≡ planned cells.now plan.old (enq_writes (sizes_of settings) (bank_load cells.now.bank) value)) }
 {
     match plan_take(cells, plan) {
         Ok(line) => {
@@ -75,8 +78,10 @@ fn plan_back(cells: &CellBank, value: u64, plan: &mut Plan) -> Result<Reply, All
 /// Plans the writes that make this line the last node, with this item, and count it.
 fn plan_node(cells: &CellBank, line: u32, value: u64, plan: &mut Plan) -> Result<(), AllocError>
     requires running { IsRunning cells.now.state }
-    requires ends { AreEnds (length cells.now.bank.lines) (bank_load cells.now.bank) }
+    requires lines { 2 ≤ length cells.now.bank.lines }
     requires line { line < length cells.now.bank.lines }
+    requires last { bank_load cells.now.bank 1 1 < length cells.now.bank.lines }
+    requires count { bank_load cells.now.bank 0 2 < length cells.now.bank.lines }
     ensures { OnOk result (plan.new ≡ planned cells.now plan.old (write line 0 value ∷ write line 1 0 ∷ link_writes (bank_load cells.now.bank) line ++ write 0 2 (bank_load cells.now.bank 0 2 + 1) ∷ [])) }
 {
     let _lines = cells.lines();
@@ -89,7 +94,8 @@ fn plan_node(cells: &CellBank, line: u32, value: u64, plan: &mut Plan) -> Result
 /// Plans the writes that put this line behind the last node, or that make it both ends of an empty queue.
 fn plan_link(cells: &CellBank, line: u32, plan: &mut Plan) -> Result<(), AllocError>
     requires running { IsRunning cells.now.state }
-    requires ends { AreEnds (length cells.now.bank.lines) (bank_load cells.now.bank) }
+    requires lines { 2 ≤ length cells.now.bank.lines }
+    requires last { bank_load cells.now.bank 1 1 < length cells.now.bank.lines }
     ensures { OnOk result (plan.new ≡ planned cells.now plan.old (link_writes (bank_load cells.now.bank) line)) }
 {
     let _lines = cells.lines();
@@ -102,28 +108,31 @@ fn plan_link(cells: &CellBank, line: u32, plan: &mut Plan) -> Result<(), AllocEr
     }
 }
 
-/// Plans to take the front item off, where there is one, and gives it.
-fn plan_front(cells: &CellBank, plan: &mut Plan) -> Result<Option<u64>, AllocError>
-    requires running { IsRunning cells.now.state }
-    requires ends { AreEnds (length cells.now.bank.lines) (bank_load cells.now.bank) }
-    ensures item { IfOk result (λ item. item ≡ front_item (bank_load cells.now.bank)) }
+/// Plans to take the front item off, and gives the reply with it, where there is one.
+fn plan_deq(
+    settings: Settings,
+    cells: &CellBank,
+    plan: &mut Plan,
+) -> Result<Option<Reply>, AllocError>
+    requires { MayPlan (sizes_of settings) cells.now }
+    ensures answer { IfOk result (λ answer. answer ≡ answer_of live_layout (sizes_of settings) (bank_load cells.now.bank) Command.Take) }
     ensures stores { OnOk result (plan.new ≡ planned cells.now plan.old (deq_writes (bank_load cells.now.bank))) }
 {
-    let _lines = cells.lines();
     let first = cells.load(ENDS, FIRST) as u32;
     if first == 0 {
         return Ok(None);
     }
     plan_unlink(cells, first, plan)?;
-    Ok(Some(cells.load(first, ITEM)))
+    Ok(Some(Reply::Found(cells.load(first, ITEM))))
 }
 
 /// Plans the writes that take this line, the first node, out of the queue, give it back and count one item less.
 fn plan_unlink(cells: &CellBank, first: u32, plan: &mut Plan) -> Result<(), AllocError>
     requires running { IsRunning cells.now.state }
-    requires ends { AreEnds (length cells.now.bank.lines) (bank_load cells.now.bank) }
+    requires lines { 2 ≤ length cells.now.bank.lines }
     requires first { first ≡ bank_load cells.now.bank 1 0 }
-    requires some { first ≢ 0 }
+    requires within { first < length cells.now.bank.lines }
+    requires some { 0 < bank_load cells.now.bank 0 2 }
     ensures { OnOk result (plan.new ≡ planned cells.now plan.old (deq_item (bank_load cells.now.bank))) }
 {
     let count = cells.load(HEADER, COUNT);

@@ -5,14 +5,14 @@ use Rattle.std.proofs.Math.Nat.{suc-mul}
 use Rattle.std.proofs.lemmas.Bool.Decides.{nat_tests}
 use Rattle.std.proofs.lemmas.List.Concat.{flat_map-cons}
 use Rattle.line_memory.specs.Line.{all_lines, quiet_line}
-use Rattle.seq_object.specs.Sizes.{Sizes, AreValid}
+use Rattle.seq_object.specs.Sizes.{AreValid, room_count, line_count, line_total}
 use Rattle.room_model.specs.Image.{HasShape}
-use Rattle.room_model.specs.Rooms.{room_count, line_count, line_total}
 use Rattle.power_cut.specs.Image.{HaveWords}
 use Rattle.power_cut.specs.Bytes.{room_bytes, rooms_bytes}
 use Rattle.power_cut.specs.Cut.{quiet_memory}
 use Rattle.power_cut.proofs.Each.{All-first, All-others}
 use Rattle.power_cut.proofs.Spelling.{HasLines, length-room_bytes}
+use Rattle.seq_object.specs.declared.sizes.Sizes.{Sizes}
 
 -- how many lines so many rooms have, from this one on
 abbrev pub lines_from : Sizes → ℕ → ℕ → ℕ

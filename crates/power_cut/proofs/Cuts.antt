@@ -3,14 +3,14 @@ use Rattle.std.proofs.Common.{◌≡◌, ℕ, zero, suc, ◌+◌, ◌<◌, ◌�
 use Rattle.std.specs.List.{All}
 use Rattle.std.proofs.lemmas.List.{drop_more}
 use Rattle.std.proofs.lemmas.List.Elements.{All-get_or}
-use Rattle.line_memory.specs.Line.{LineState, BankState, left, bank_at, no_bank, all_lines, AreLines}
+use Rattle.line_memory.specs.Line.{LineState, BankState, survivor, bank_at, no_bank, all_lines, AreLines}
 use Rattle.line_memory.specs.Laws.{LeftWordsLaw}
-use Rattle.seq_object.specs.Sizes.{Sizes}
-use Rattle.room_model.specs.Image.{Image as Rooms, Choice as Choosing, HasShape, lines_at, words_at, lines_left, rooms_left, image_of}
-use Rattle.room_model.specs.Rooms.{room_count, line_count}
+use Rattle.seq_object.specs.Sizes.{room_count, line_count}
+use Rattle.room_model.specs.Image.{ImageRooms as Rooms, KeptCounts as Choosing, HasShape, lines_at, words_at, surviving_lines, surviving_rooms, image_of, HasRooms}
 use Rattle.power_cut.specs.Image.{IsLineOfWords, HaveWords}
-use Rattle.power_cut.specs.Cut.{first_line, HasRooms}
+use Rattle.power_cut.specs.Cut.{first_line}
 use Rattle.power_cut.proofs.Each.{All-none, All-cons}
+use Rattle.seq_object.specs.declared.sizes.Sizes.{Sizes}
 
 -- the lines before one more room
 pub first_line-more : (memory : List BankState) (room : ℕ) → room < length memory → first_line memory (room + 1) ≡ first_line memory room + length (bank_at memory room).lines
@@ -29,37 +29,37 @@ first_line-le (b ∷ bs) zero = omega arith
 first_line-le (b ∷ bs) (suc room) = omega (arith, first_line-le bs room)
 
 -- what is left of lines has eight words of 64 bits each
-pub All-lines_left : LeftWordsLaw → (f : ℕ → ℕ) (i : ℕ) (lines : List LineState) → AreLines lines → All IsLineOfWords (lines_left f i lines)
+pub All-lines_left : LeftWordsLaw → (f : ℕ → ℕ) (i : ℕ) (lines : List LineState) → AreLines lines → All IsLineOfWords (surviving_lines f i lines)
 All-lines_left law f i [] whole = All-none IsLineOfWords
 All-lines_left law f i (l ∷ ls) whole =
     let words = law l (f i) (whole 0 (omega arith)) in
-    let first : IsLineOfWords (left l (f i)) = record { eight = words.0; small = words.1 } in
-    All-cons IsLineOfWords (left l (f i)) (lines_left f (suc i) ls) first (All-lines_left law f (suc i) ls (λ k within. whole (suc k) (omega arith)))
+    let first : IsLineOfWords (survivor l (f i)) = record { eight = words.0; small = words.1 } in
+    All-cons IsLineOfWords (survivor l (f i)) (surviving_lines f (suc i) ls) first (All-lines_left law f (suc i) ls (λ k within. whole (suc k) (omega arith)))
 
 -- one more room is left
-pub rooms_left-more : (choice : Choosing) (memory : List BankState) (room : ℕ) (made total : Rooms) (lines : List (List ℕ)) → room < length memory → lines ≡ lines_left (choice room) 0 (bank_at memory room).lines
-    → made ++ rooms_left choice room (drop room memory) ≡ total → (made ++ lines ∷ []) ++ rooms_left choice (room + 1) (drop (room + 1) memory) ≡ total
+pub rooms_left-more : (choice : Choosing) (memory : List BankState) (room : ℕ) (made total : Rooms) (lines : List (List ℕ)) → room < length memory → lines ≡ surviving_lines (choice room) 0 (bank_at memory room).lines
+    → made ++ surviving_rooms choice room (drop room memory) ≡ total → (made ++ lines ∷ []) ++ surviving_rooms choice (room + 1) (drop (room + 1) memory) ≡ total
 rooms_left-more choice memory room made total lines within is so_far =
-    let opened : rooms_left choice room (drop room memory) ≡ lines_left (choice room) 0 (bank_at memory room).lines ∷ rooms_left choice (suc room) (drop (room + 1) memory) = ap (rooms_left choice room) (drop_more memory room no_bank within) in
-    let next : rooms_left choice (room + 1) (drop (room + 1) memory) ≡ rooms_left choice (suc room) (drop (room + 1) memory) = ap (λ (n : ℕ). rooms_left choice n (drop (room + 1) memory)) (add-one room) in
-    append_assoc made (lines ∷ []) (rooms_left choice (room + 1) (drop (room + 1) memory))
+    let opened : surviving_rooms choice room (drop room memory) ≡ surviving_lines (choice room) 0 (bank_at memory room).lines ∷ surviving_rooms choice (suc room) (drop (room + 1) memory) = ap (surviving_rooms choice room) (drop_more memory room no_bank within) in
+    let next : surviving_rooms choice (room + 1) (drop (room + 1) memory) ≡ surviving_rooms choice (suc room) (drop (room + 1) memory) = ap (λ (n : ℕ). surviving_rooms choice n (drop (room + 1) memory)) (add-one room) in
+    append_assoc made (lines ∷ []) (surviving_rooms choice (room + 1) (drop (room + 1) memory))
     ∙ ap (λ (rest : Rooms). made ++ lines ∷ rest) next
-    ∙ ap (λ (ls : List (List ℕ)). made ++ ls ∷ rooms_left choice (suc room) (drop (room + 1) memory)) is
+    ∙ ap (λ (ls : List (List ℕ)). made ++ ls ∷ surviving_rooms choice (suc room) (drop (room + 1) memory)) is
     ∙ ap (λ (rest : Rooms). made ++ rest) (sym opened)
     ∙ so_far
 
 -- as many rooms are left as there are
-length-rooms_left : (choice : Choosing) (r : ℕ) (memory : List BankState) → length (rooms_left choice r memory) ≡ length memory
+length-rooms_left : (choice : Choosing) (r : ℕ) (memory : List BankState) → length (surviving_rooms choice r memory) ≡ length memory
 length-rooms_left choice r [] = cc
 length-rooms_left choice r (b ∷ bs) = ap suc (length-rooms_left choice (suc r) bs)
 
 -- as many lines are left as there are
-length-lines_left : (f : ℕ → ℕ) (i : ℕ) (lines : List LineState) → length (lines_left f i lines) ≡ length lines
+length-lines_left : (f : ℕ → ℕ) (i : ℕ) (lines : List LineState) → length (surviving_lines f i lines) ≡ length lines
 length-lines_left f i [] = cc
 length-lines_left f i (l ∷ ls) = ap suc (length-lines_left f (suc i) ls)
 
 -- a room that is left has its lines
-length-lines_at : (choice : Choosing) (r : ℕ) (memory : List BankState) (room : ℕ) → room < length memory → length (lines_at (rooms_left choice r memory) room) ≡ length (bank_at memory room).lines
+length-lines_at : (choice : Choosing) (r : ℕ) (memory : List BankState) (room : ℕ) → room < length memory → length (lines_at (surviving_rooms choice r memory) room) ≡ length (bank_at memory room).lines
 length-lines_at choice r [] room within = absurd (omega arith)
 length-lines_at choice r (b ∷ bs) zero within = length-lines_left (choice r) 0 b.lines
 length-lines_at choice r (b ∷ bs) (suc room) within = length-lines_at choice (suc r) bs room (omega arith)

@@ -5,14 +5,15 @@ use Rattle.std.proofs.lemmas.Bool.Decides.{Decides-eqb, nat_tests}
 use Rattle.std.proofs.lemmas.Slice.Eq.{starts_is}
 use Rattle.byteorder.specs.Endian.{little_bytes}
 use Rattle.byteorder.specs.Numbers.{little_number-reads_back}
-use Rattle.seq_object.specs.Sizes.{Sizes, AreValid}
-use Rattle.room_model.specs.Image.{Image as Rooms}
+use Rattle.seq_object.specs.Sizes.{AreValid, is_from_to, are_valid}
+use Rattle.room_model.specs.Image.{ImageRooms as Rooms}
 use Rattle.power_cut.specs.Image.{AreWhole}
-use Rattle.power_cut.specs.Bytes.{magic, head_bytes, rooms_bytes, image_bytes_of, number_at, sizes_at, is_from_to, are_valid, image_length, length_fault, head_fault, first_fault}
+use Rattle.power_cut.specs.Bytes.{magic, head_bytes, rooms_bytes, image_bytes_of, number_at, sizes_at, image_length, length_fault, head_fault, first_fault}
 use Rattle.power_cut.specs.declared.fault.ImageFault.{ImageFault}
 use Rattle.power_cut.specs.declared.fault.ImageFault.TheVariants.{Short, Long, Magic, Version, Settings}
 use Rattle.power_cut.proofs.Numbers.{little_bytes-little_number}
 use Rattle.power_cut.proofs.Counts.{length-rooms_bytes}
+use Rattle.seq_object.specs.declared.sizes.Sizes.{Sizes}
 
 -- a number between bounds
 is_from_to-true : (low high n : ℕ) → is_from_to low high n ≡ true → (low ≤ n) × (n ≤ high)

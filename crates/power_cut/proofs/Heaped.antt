@@ -6,9 +6,8 @@ use Rattle.std.proofs.lemmas.Grind.{flat_map-append}
 use Rattle.std.proofs.Math.ListN.{get_or-append}
 use Rattle.std.proofs.Math.Seq.{get_or-append_seam}
 use Rattle.line_memory.specs.Line.{BankState, bank_at, all_lines, quiet_bank}
-use Rattle.seq_object.specs.Sizes.{Sizes}
-use Rattle.room_model.specs.Image.{Image as Rooms, lines_at, lines_left}
-use Rattle.room_model.specs.Rooms.{line_count, line_total}
+use Rattle.seq_object.specs.Sizes.{line_count, line_total}
+use Rattle.room_model.specs.Image.{ImageRooms as Rooms, lines_at, surviving_lines}
 use Rattle.store_order.specs.declared.choice.Choice.{Choice}
 use Rattle.store_order.specs.Choice.{kept_of}
 use Rattle.power_cut.specs.Image.{lists_of, AreWhole}
@@ -17,6 +16,7 @@ use Rattle.power_cut.specs.Cut.{first_line, choosing, quiet_memory}
 use Rattle.byteorder.specs.Endian.{little_bytes}
 use Rattle.power_cut.proofs.Counts.{lines_from, lines_from-step, lines_in-shape, line_total-few, all_lines-quiet}
 use Rattle.power_cut.proofs.Cuts.{first_line-more, first_line-le}
+use Rattle.seq_object.specs.declared.sizes.Sizes.{Sizes}
 
 -- the lists of one more vector
 pub lists_of-more : (rooms more : List (Vec (List ℕ))) (v : Vec (List ℕ)) → more ≡ rooms ++ v ∷ [] → lists_of more ≡ lists_of rooms ++ v.items ∷ []
@@ -76,9 +76,9 @@ first_next memory room first bank lines within is so_far counted =
 
 -- what is left of a bank is what the choice leaves of that room of the memory
 pub survived : (memory : List BankState) (choice : Choice) (room first : ℕ) (bank : BankState) (lines : List (List ℕ)) → bank ≡ bank_at memory room → first ≡ first_line memory room
-    → lines ≡ lines_left (kept_of choice first bank.lines) 0 bank.lines → lines ≡ lines_left (choosing choice memory room) 0 (bank_at memory room).lines
+    → lines ≡ surviving_lines (kept_of choice first bank.lines) 0 bank.lines → lines ≡ surviving_lines (choosing choice memory room) 0 (bank_at memory room).lines
 survived memory choice room first bank lines is so_far left =
-    left ∙ ap (λ (f : ℕ). lines_left (kept_of choice f bank.lines) 0 bank.lines) so_far ∙ ap (λ (b : BankState). lines_left (kept_of choice (first_line memory room) b.lines) 0 b.lines) is
+    left ∙ ap (λ (f : ℕ). surviving_lines (kept_of choice f bank.lines) 0 bank.lines) so_far ∙ ap (λ (b : BankState). surviving_lines (kept_of choice (first_line memory room) b.lines) 0 b.lines) is
 
 -- a whole image makes few enough banks and lines to be counted
 pub quiet_memory-few : (z : Sizes) (rooms : Rooms) (banks : List BankState) → AreWhole z rooms → banks ≡ quiet_memory rooms → (length banks < 2 ^ 32) × (all_lines banks < 2 ^ 32)

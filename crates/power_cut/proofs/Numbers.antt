@@ -37,7 +37,3 @@ little_bytes-little_number (suc n) (a ∷ xs) long small =
 -- two numbers whose bytes stand at the same place are one
 pub little_bytes-cancel : (n x y : ℕ) (xs ys : List ℕ) → x < 256 ^ n → y < 256 ^ n → little_bytes n x ++ xs ≡ little_bytes n y ++ ys → x ≡ y
 little_bytes-cancel n x y xs ys small less same = sym (little_number-reads_back n x xs small) ∙ ap (little_number n) same ∙ little_number-reads_back n y ys less
-
--- there are n bytes
-pub length-little_bytes : (n x : ℕ) → length (little_bytes n x) ≡ n
-length-little_bytes n x = length-bytes_low_first 0 n x

@@ -1,12 +1,12 @@
 -- The bytes of an image, and the first fault of bytes that are none.
-use Rattle.std.specs.Prelude.{ℕ, ◌+◌, ◌*◌, ◌==◌, Bool, nat_eq, nat_lt, nat_le, ◌&&◌, not, if◌then◌else◌, List, ◌++◌, length, drop, codes, Option, Some, None}
+use Rattle.std.specs.Prelude.{ℕ, ◌+◌, ◌*◌, ◌==◌, nat_eq, nat_lt, not, if◌then◌else◌, List, ◌++◌, length, drop, codes, Option, Some, None}
 use Rattle.std.specs.List.{flat_map, starts_with}
 use Rattle.byteorder.specs.Endian.{little_bytes, little_number}
-use Rattle.seq_object.specs.Sizes.{Sizes}
-use Rattle.room_model.specs.Image.{Image as Rooms}
-use Rattle.room_model.specs.Rooms.{line_total}
+use Rattle.seq_object.specs.Sizes.{line_total, are_valid}
+use Rattle.room_model.specs.Image.{ImageRooms as Rooms}
 use Rattle.power_cut.specs.declared.fault.ImageFault.{ImageFault}
 use Rattle.power_cut.specs.declared.fault.ImageFault.TheVariants.{Short, Long, Magic, Version, Settings}
+use Rattle.seq_object.specs.declared.sizes.Sizes.{Sizes}
 
 -- the eight bytes that an image begins with
 abbrev pub magic : List ℕ
@@ -39,14 +39,6 @@ number_at bytes at = little_number 4 (drop at bytes)
 -- the sizes that bytes state
 abbrev pub sizes_at : List ℕ → Sizes
 sizes_at bytes = record { threads = number_at bytes 12; shards = number_at bytes 16; lines = number_at bytes 20 }
-
--- whether a number is from low to high
-abbrev pub is_from_to : ℕ → ℕ → ℕ → Bool
-is_from_to low high n = nat_le low n && nat_le n high
-
--- whether sizes are within their limits
-abbrev pub are_valid : Sizes → Bool
-are_valid z = is_from_to 1 16 z.threads && (is_from_to 1 8 z.shards && is_from_to 16 65536 z.lines)
 
 -- how many bytes an image of these sizes has
 abbrev pub image_length : Sizes → ℕ

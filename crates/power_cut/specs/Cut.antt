@@ -1,9 +1,7 @@
 -- What a choice leaves of a memory, with its lines numbered through all rooms; and a memory made of an image.
-use Rattle.std.specs.Prelude.{◌≡◌, ℕ, ◌<◌, List, length, take, map}
+use Rattle.std.specs.Prelude.{ℕ, List, take, map}
 use Rattle.line_memory.specs.Line.{BankState, bank_at, all_lines, quiet_bank}
-use Rattle.seq_object.specs.Sizes.{Sizes}
-use Rattle.room_model.specs.Rooms.{room_count, line_count}
-use Rattle.room_model.specs.Image.{Image as Rooms, Choice as Choosing}
+use Rattle.room_model.specs.Image.{ImageRooms as Rooms, KeptCounts as Choosing}
 use Rattle.store_order.specs.declared.choice.Choice.{Choice}
 use Rattle.store_order.specs.Choice.{kept_of}
 
@@ -18,8 +16,3 @@ choosing choice memory = λ room line. kept_of choice (first_line memory room) (
 -- a memory with these words in its lines and nothing pending
 abbrev pub quiet_memory : Rooms → List BankState
 quiet_memory rooms = map quiet_bank rooms
-
--- a memory has the rooms of its sizes, and each room its lines
-pub record HasRooms (z : Sizes) (memory : List BankState) : Type 0 where
-  pub rooms : length memory ≡ room_count z
-  pub lines : (room : ℕ) → room < room_count z → length (bank_at memory room).lines ≡ line_count z room

@@ -1,9 +1,10 @@
 -- Images as lists: their sizes, their rooms, and which of them are whole.
 use Rattle.std.specs.Prelude.{◌≡◌, ℕ, ◌<◌, ◌^◌, List, map, All, length}
 use Rattle.std.specs.Global.{Vec}
-use Rattle.seq_object.specs.Sizes.{Sizes, AreValid}
-use Rattle.room_model.specs.Image.{Image as Rooms, HasShape}
+use Rattle.seq_object.specs.Sizes.{AreValid}
+use Rattle.room_model.specs.Image.{ImageRooms as Rooms, HasShape}
 use Rattle.power_cut.specs.declared.image.Image.{Image}
+use Rattle.seq_object.specs.declared.sizes.Sizes.{Sizes}
 
 -- the lists of these vectors
 abbrev pub lists_of : List (Vec (List ℕ)) → Rooms

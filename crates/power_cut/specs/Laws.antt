@@ -1,10 +1,10 @@
 -- Laws on images and their bytes.
 use Rattle.std.specs.Prelude.{◌≡◌, None}
-use Rattle.seq_object.specs.Sizes.{Sizes}
-use Rattle.room_model.specs.Image.{Image as Rooms, Choice as Choosing, image_of}
+use Rattle.room_model.specs.Image.{ImageRooms as Rooms, KeptCounts as Choosing, image_of}
 use Rattle.power_cut.specs.Image.{AreWhole}
 use Rattle.power_cut.specs.Bytes.{image_bytes_of, first_fault}
 use Rattle.power_cut.specs.Cut.{quiet_memory}
+use Rattle.seq_object.specs.declared.sizes.Sizes.{Sizes}
 
 -- the bytes of an image have no fault
 abbrev pub SpellingsPassLaw : Type 0

@@ -1,5 +1,5 @@
 pub mod Bytes
 pub mod Cut
-pub mod Head
 pub mod Image
 pub mod Laws
+pub mod FaultText

@@ -2,15 +2,15 @@
 
 ghost use Rattle.std.specs.Prelude.{◌≡◌, IfOk};
 ghost use Rattle.seq_object.specs.Sizes.{sizes_of, AreValid};
-ghost use Rattle.room_model.specs.Image.{image_of};
+ghost use Rattle.room_model.specs.Image.{image_of, HasRooms};
 ghost use Rattle.power_cut.specs.Image.{sizes_in, rooms_in, lists_of, HaveWords, IsWhole};
-ghost use Rattle.power_cut.specs.Cut.{choosing, HasRooms};
+ghost use Rattle.power_cut.specs.Cut.{choosing};
 
 use crate::image::Image;
 use line_memory::Memory;
 use seq_object::Settings;
 use std::alloc::{AllocError, Global};
-use store_order::{Choice, survive};
+use store_order::{Choice, generator_of, survive_next};
 
 /// The image that the choice leaves of a memory of these settings; the memory stays as it is. Want of memory is the one
 /// refusal. It is whole where the settings are within their limits and the memory has the rooms and lines of the settings.
@@ -33,7 +33,7 @@ pub fn cut(
     })
 }
 
-/// What the choice leaves of the rooms of a memory.
+/// What the choice leaves of the rooms of a memory. The words of a seed are drawn once, from room to room.
 fn rooms_kept(
     alloc: Global,
     memory: &Memory,
@@ -45,9 +45,10 @@ fn rooms_kept(
     let _all = memory.lines();
     let mut rooms = Vec::with_capacity(alloc, memory.rooms() as usize)?;
     let mut first = 0u32;
+    let mut words = generator_of(choice);
     for room in 0..memory.rooms() {
         let bank = memory.bank(room);
-        rooms.push(survive(alloc, bank, choice, first)?)?;
+        rooms.push(survive_next(alloc, bank, choice, first, &mut words)?)?;
         first += bank.lines();
     }
     Ok(rooms)

@@ -23,21 +23,47 @@ pub enum ImageFault {
     Settings,
     /// The epoch is 0, or too large.
     Epoch,
-    /// A cell of this room and line is ahead of the epoch.
-    TagAhead { room: u32, line: u32 },
+    /// A cell is ahead of the epoch.
+    TagAhead {
+        /// The number of its room, from 0.
+        room: u32,
+        /// The number of its line in the room, from 0.
+        line: u32,
+    },
     /// The first lines of this room do not fit.
-    Header { room: u32 },
+    Header {
+        /// The number of the room, from 0.
+        room: u32,
+    },
     /// A chain of this room leads astray.
-    Chain { room: u32 },
+    Chain {
+        /// The number of the room, from 0.
+        room: u32,
+    },
     /// The list of free lines of this room leads astray.
-    FreeList { room: u32 },
+    FreeList {
+        /// The number of the room, from 0.
+        room: u32,
+    },
     /// The lines of this room are not all there, or miscounted.
-    Count { room: u32 },
+    Count {
+        /// The number of the room, from 0.
+        room: u32,
+    },
     /// The last line of this queue is not the one that is named.
-    Ends { room: u32 },
+    Ends {
+        /// The number of the room, from 0.
+        room: u32,
+    },
 }
 
 impl fmt::Display for ImageFault {
+    ghost use Rattle.std.specs.Prelude.{Some};
+    ghost use Rattle.power_cut.specs.FaultText.{fault_text};
+
+    ghost output = { λ fault. Some (fault_text fault) };
+
+    /// The text of the fault, as it stands on standard error behind `image: `.
     fn fmt<W: fmt::Write>(&self, f: &mut fmt::Formatter<W>) -> fmt::Result {
         match self {
             ImageFault::Short => write!(f, "short"),

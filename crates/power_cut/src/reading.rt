@@ -2,18 +2,18 @@
 //! pass.
 
 ghost use Rattle.std.specs.Prelude.{◌≡◌, ◌+◌, ◌*◌, ◌≤◌, ◌<◌, ◌↔◌, length, All, IfOk, IfErr, Some, None, Err};
-ghost use Rattle.seq_object.specs.Sizes.{Sizes, AreValid};
-ghost use Rattle.room_model.specs.Image.{HasShape, Image as Rooms};
-ghost use Rattle.room_model.specs.Rooms.{line_total};
+ghost use Rattle.seq_object.specs.Sizes.{AreValid, line_total};
+ghost use Rattle.room_model.specs.Image.{HasShape, ImageRooms as Rooms};
 ghost use Rattle.power_cut.specs.Image.{sizes_in, rooms_in, lists_of, IsLineOfWords, AreWhole, IsWhole};
 ghost use Rattle.power_cut.specs.Bytes.{line_bytes, room_bytes, rooms_bytes, image_bytes_of, number_at, sizes_at, first_fault};
-ghost use Rattle.power_cut.specs.Head.{sizes_of_head};
 ghost use Rattle.power_cut.specs.declared.fault.ReadImageRefusal.TheVariants.{Fault};
+ghost use Rattle.seq_object.specs.declared.sizes.Sizes.{Sizes};
 
 use crate::fault::{ImageFault, ReadImageRefusal};
-use crate::head::{HEAD, Head, LINE, MAGIC, VERSION};
+use crate::head::{HEAD, LINE, MAGIC, VERSION, image_length};
 use crate::image::Image;
 use byteorder::{ByteOrder, LittleEndian};
+use seq_object::Sizes;
 use std::alloc::{AllocError, Global};
 
 /// The image that these bytes spell. A fault is the first in this order: fewer bytes than a head (`Short`), other bytes at
@@ -25,23 +25,23 @@ pub fn read_image(alloc: Global, bytes: &[u8]) -> Result<Image, ReadImageRefusal
     ensures only { (z : Sizes) (rooms : Rooms) → AreWhole z rooms → bytes.now ≡ image_bytes_of z rooms → IfOk result (λ image. (sizes_in image ≡ z) × (rooms_in image ≡ rooms)) }
     ensures first { (fault : ImageFault) → (result ≡ Err (Fault fault)) ↔ (first_fault bytes.now ≡ Some fault) }
 {
-    let head = match read_head(bytes) {
-        Ok(head) => head,
+    let sizes = match read_head(bytes) {
+        Ok(sizes) => sizes,
         Err(fault) => return Err(ReadImageRefusal::Fault(fault)),
     };
-    let rooms = read_rooms(alloc, head, &bytes[HEAD..])?;
+    let rooms = read_rooms(alloc, sizes, &bytes[HEAD..])?;
     Ok(Image {
-        threads: head.threads,
-        shards: head.shards,
-        lines: head.lines,
+        threads: sizes.threads,
+        shards: sizes.shards,
+        lines: sizes.lines,
         rooms,
     })
 }
 
 /// The sizes that the bytes state, or the first fault of the bytes.
-fn read_head(bytes: &[u8]) -> Result<Head, ImageFault>
-    ensures faultless { IfOk result (λ head. first_fault bytes.now ≡ None) }
-    ensures sizes { IfOk result (λ head. sizes_of_head head ≡ sizes_at bytes.now) }
+fn read_head(bytes: &[u8]) -> Result<Sizes, ImageFault>
+    ensures faultless { IfOk result (λ sizes. first_fault bytes.now ≡ None) }
+    ensures sizes { IfOk result (λ sizes. sizes ≡ sizes_at bytes.now) }
     ensures fault { IfErr result (λ fault. first_fault bytes.now ≡ Some fault) }
 {
     if bytes.len() < HEAD {
@@ -53,21 +53,21 @@ fn read_head(bytes: &[u8]) -> Result<Head, ImageFault>
     if number_at(bytes, 8) != VERSION {
         return Err(ImageFault::Version);
     }
-    let head = Head {
+    let sizes = Sizes {
         threads: number_at(bytes, 12),
         shards: number_at(bytes, 16),
         lines: number_at(bytes, 20),
     };
-    if !head.is_valid() {
+    if !sizes.valid() {
         return Err(ImageFault::Settings);
     }
-    if bytes.len() < head.image_length() {
+    if bytes.len() < image_length(sizes) {
         return Err(ImageFault::Short);
     }
-    if bytes.len() > head.image_length() {
+    if bytes.len() > image_length(sizes) {
         return Err(ImageFault::Long);
     }
-    Ok(head)
+    Ok(sizes)
 }
 
 /// The number in the four bytes from a place on.
@@ -79,16 +79,16 @@ fn number_at(bytes: &[u8], at: usize) -> u32
 }
 
 /// The rooms of an image of these sizes, from the bytes of their words.
-fn read_rooms(alloc: Global, head: Head, bytes: &[u8]) -> Result<Vec<Vec<[u64; 8]>>, AllocError>
-    requires valid { AreValid (sizes_of_head head) }
-    requires size { length bytes.now ≡ 64 * line_total (sizes_of_head head) }
-    ensures shape { IfOk result (λ rooms. AreWhole (sizes_of_head head) (lists_of rooms.items)) }
+fn read_rooms(alloc: Global, sizes: Sizes, bytes: &[u8]) -> Result<Vec<Vec<[u64; 8]>>, AllocError>
+    requires valid { AreValid sizes }
+    requires size { length bytes.now ≡ 64 * line_total sizes }
+    ensures shape { IfOk result (λ rooms. AreWhole sizes (lists_of rooms.items)) }
     ensures spelled { IfOk result (λ rooms. bytes.now ≡ rooms_bytes (lists_of rooms.items)) }
 {
-    let mut rooms = Vec::with_capacity(alloc, head.rooms() as usize)?;
+    let mut rooms = Vec::with_capacity(alloc, sizes.room_count() as usize)?;
     let mut rest = bytes;
-    for room in 0..head.rooms() {
-        let lines = head.lines_of(room);
+    for room in 0..sizes.room_count() {
+        let lines = sizes.lines_of(room) as usize;
         let (own, others) = rest.split_at(LINE * lines);
         rooms.push(read_room(alloc, lines, own)?)?;
         rest = others;

@@ -94,7 +94,15 @@ fn a_memory_and_its_image(rt: HostRuntime) -> Result<(), Fail> {
         every: 2,
     };
     let image = cut(alloc, &memory, &settings, &Choice::All)?;
-    assert!(rt; image == image_of(&rt, alloc, bytes.as_slice())?);
+    assert!(rt; image.rooms.len() == 4);
+    for (room, line, word) in [(0, 0, 0), (0, 15, 15), (1, 2, 18), (2, 0, 32), (3, 0, 33)] {
+        assert!(rt; room < 4);
+        assert_eq!(rt;
+            image.rooms[room].as_slice().get(line).copied(),
+            Some([word, 0, 0, 0, 0, 0, 0, 256 * word]),
+            "line {line} of room {room}"
+        );
+    }
     Ok(())
 }
 

@@ -5,11 +5,11 @@ ghost use Rattle.seq_object.specs.Sizes.{AreValid};
 ghost use Rattle.byteorder.specs.Endian.{little_bytes};
 ghost use Rattle.power_cut.specs.Image.{sizes_in, rooms_in};
 ghost use Rattle.power_cut.specs.Bytes.{head_bytes, line_bytes, room_bytes, image_bytes_of};
-ghost use Rattle.power_cut.specs.Head.{sizes_of_head};
 
-use crate::head::{Head, MAGIC, VERSION};
+use crate::head::{MAGIC, VERSION, image_length};
 use crate::image::Image;
 use byteorder::{ByteOrder, LittleEndian};
+use seq_object::Sizes;
 use std::alloc::{AllocError, Global};
 
 /// The bytes of an image whose sizes are within their limits. Want of memory is the one refusal.
@@ -17,13 +17,9 @@ pub fn image_bytes(alloc: Global, image: &Image) -> Result<Vec<u8>, AllocError>
     requires { AreValid (sizes_in image.now) }
     ensures { IfOk result (λ bytes. bytes.items ≡ image_bytes_of (sizes_in image.now) (rooms_in image.now)) }
 {
-    let head = Head {
-        threads: image.threads,
-        shards: image.shards,
-        lines: image.lines,
-    };
-    let mut bytes = Vec::with_capacity(alloc, head.image_length())?;
-    put_head(&mut bytes, head)?;
+    let sizes = image.sizes();
+    let mut bytes = Vec::with_capacity(alloc, image_length(sizes))?;
+    put_head(&mut bytes, sizes)?;
     for room in &image.rooms {
         put_room(&mut bytes, room)?;
     }
@@ -31,14 +27,14 @@ pub fn image_bytes(alloc: Global, image: &Image) -> Result<Vec<u8>, AllocError>
 }
 
 /// Appends what stands before the words.
-fn put_head(bytes: &mut Vec<u8>, head: Head) -> Result<(), AllocError>
-    ensures { OnOk result (bytes.new.items ≡ bytes.old.items ++ head_bytes (sizes_of_head head)) }
+fn put_head(bytes: &mut Vec<u8>, sizes: Sizes) -> Result<(), AllocError>
+    ensures { OnOk result (bytes.new.items ≡ bytes.old.items ++ head_bytes sizes) }
 {
     bytes.extend_from_slice(&MAGIC)?;
     put_number(bytes, VERSION)?;
-    put_number(bytes, head.threads)?;
-    put_number(bytes, head.shards)?;
-    put_number(bytes, head.lines)
+    put_number(bytes, sizes.threads)?;
+    put_number(bytes, sizes.shards)?;
+    put_number(bytes, sizes.lines)
 }
 
 /// Appends a number of 32 bits.

@@ -1,166 +1,118 @@
 -- From the steps of a start to what its status tells, and to which status it is.
-use Rattle.std.proofs.Common.{◌≡◌, ◌≢◌, ℕ, ◌+◌, ◌*◌, ◌≤◌, List, [], ◌∷◌, length, Option, Some, None, Ok, Err, inl, inr, refl, sym, subst, ◌∙◌}
-use Rattle.std.specs.Prelude.{◌⊎◌}
-use Rattle.byte_ports.specs.Bytes.{Gave}
+use Rattle.std.proofs.Common.{◌≡◌, ◌≢◌, ℕ, ◌+◌, ◌*◌, ◌≤◌, List, [], ◌∷◌, length, Result, Option, Some, None, Ok, Err, inl, inr, refl, sym, subst, ◌∙◌}
+use Rattle.std.specs.Prelude.{◌⊎◌, IfOk, IfErr}
+use Rattle.std.proofs.lemmas.List.{append-nil}
+use Rattle.std.proofs.Math.Seq.{take-length}
+use Rattle.byte_ports.specs.Bytes.{Gave, TookSome, Appended, AppendedSome}
 use Rattle.byte_ports.specs.Causes.{Rose}
-use Rattle.byte_ports.specs.Images.{Named, SetsName}
+use Rattle.byte_ports.specs.Images.{Named, SetsName, OthersSame}
+use Rattle.byte_ports.specs.declared.refusal.StoreRefusal.{StoreRefusal}
+use Rattle.byte_ports.specs.declared.refusal.StoreRefusal.TheVariants as stores
 use Rattle.line_memory.specs.Line.{BankState}
 use Rattle.seq_object.specs.declared.command.Command.{Command}
 use Rattle.seq_object.specs.Sizes.{sizes_of}
-use Rattle.seq_object.specs.History.{first_state}
 use Rattle.room_model.specs.Image.{image_of}
-use Rattle.life_model.specs.declared.life.Life.TheVariants.{Start}
 use Rattle.life_model.specs.declared.life.Outcome.{Outcome}
 use Rattle.life_model.specs.declared.life.Outcome.TheVariants as ends
+use Rattle.life_model.specs.Life.{start_of}
+use Rattle.life_model.specs.Told.{ReportState, TellsOf}
 use Rattle.power_cut.specs.Cut.{choosing}
 use Rattle.power_cut.specs.Bytes.{image_bytes_of}
 use Rattle.script_text.specs.declared.script.Script.{Script}
 use Rattle.script_text.specs.Program.{Program, program_of, Turns}
 use Rattle.script_text.specs.Text.{text_of}
-use Rattle.script_text.specs.ReportText.{ReportState, report_bytes}
-use Rattle.script_text.specs.Built.{IsBuiltText}
+use Rattle.script_text.specs.ReportText.{report_bytes}
 use Rattle.script_text.proofs.WholeLaws.{one_text}
-use Rattle.respct.specs.declared.status.Status.{Status}
+use Rattle.respct.specs.declared.reading.NoScript.TheVariants as scripts
+use Rattle.respct.specs.declared.start.NoReport.{NoReport}
+use Rattle.respct.specs.declared.start.NoReport.TheVariants.{Unread, Untold, Unsaved, Unwritten}
 use Rattle.respct.specs.declared.status.Status.TheVariants as statuses
-use Rattle.respct.specs.Status.{status_of_end}
-use Rattle.respct.specs.Run.{HasLived, TellsOf, HasRead, HasRun, HasEnoughTurns}
-use Rattle.respct.specs.Answers.{outside, IsUntouched, StartTells, IsDecided, IsUnlessStarved}
-use Rattle.respct.specs.Steps.{Reads, IsReadDecided, IsReportOf, IsOutcomeIn, Saves, Writes}
+use Rattle.respct.specs.Words.{IsStart}
+use Rattle.respct.specs.Status.{status_of_end, status_of_start}
+use Rattle.respct.specs.Run.{Led, IsLed, HasRead, HasSaved, HasEnoughTurns}
+use Rattle.respct.specs.Answers.{IsUntouched, IsDecided, IsUnlessStarved}
+use Rattle.respct.specs.Steps.{Ports, HasReported, HasCause, IsUnsaved, IsUnwritten, IsUnreported, IsReadDecided, IsReportOf, IsOutcomeIn}
 use Rattle.respct.proofs.Scripts.{IsAlone}
-use Rattle.respct.proofs.Saves.{others_same, others_set}
+use Rattle.respct.proofs.Saves.{others_set}
+use Rattle.life_model.specs.Told.{ReportState}
 
--- the report of a life of a program's one thread is a report of the program
-pub tells_of : (p : Program) (commands : List Command) (turns : ℕ) (r : ReportState) (memory : List BankState) → IsAlone p commands turns → IsReportOf p.settings commands turns r memory → TellsOf p memory r
-tells_of p commands turns r memory alone is = record {
-  started = is.started;
-  lived = subst (λ (scripts : List (List Command)). HasLived (record { settings = p.settings; scripts = scripts; life = Start; epoch = 1; state = first_state (sizes_of p.settings) }) r memory) (sym alone.thread) is.lived;
+-- the life that a start led
+
+-- its image's name, its script and its report
+abbrev pub led_by : List ℕ → Script → ReportState → Led
+led_by name script r = record { name = name; program = program_of script; report = r }
+
+-- the source had its script, and the report tells it
+pub is_led : (name : List ℕ) (left rest : Option (List ℕ)) (script : Script) (commands : List Command) (turns : ℕ) (r : ReportState) (memory : List BankState) → HasRead left rest (program_of script)
+    → IsAlone (program_of script) commands turns → IsReportOf script.settings commands turns r memory → IsLed left rest memory (led_by name script r)
+is_led name left rest script commands turns r memory read alone is = record {
+  source = read;
+  told = subst (λ (threads : List (List Command)). TellsOf (start_of script.settings threads) [] 0 r memory) (sym alone.thread) is.told;
+  within = is.within;
 }
 
--- a life that was led, and the image that is saved of it
-pub record IsSaved (name : List ℕ) (left rest : Option (List ℕ)) (kept after : Option Named) (script : Script) (r : ReportState) (memory : List BankState) : Type 0 where
-  pub source : HasRead left rest (program_of script)
-  pub told : TellsOf (program_of script) memory r
-  pub not_stalled : r.outcome ≢ ends.Stalled
-  pub set : SetsName kept after name (image_bytes_of (sizes_of script.settings) (image_of memory (choosing script.keep memory)))
+-- its image is saved
+pub has_saved : (name : List ℕ) (kept after : Option Named) (script : Script) (r : ReportState) (memory : List BankState) → SetsName kept after name (image_bytes_of (sizes_of script.settings) (image_of memory (choosing script.keep memory)))
+    → HasSaved kept after memory (led_by name script r)
+has_saved name kept after script r memory set = record { keep = script.keep; kept = refl; set = set }
 
--- a script that was read, the life of its one thread, and the image that is saved of it
-pub saved_of : (name : List ℕ) (left rest : Option (List ℕ)) (kept after : Option Named) (script : Script) (commands : List Command) (turns : ℕ) (r : ReportState) (memory : List BankState) → IsBuiltText (text_of (program_of script)) (program_of script)
-    → Gave left rest (text_of (program_of script)) → IsAlone (program_of script) commands turns → IsReportOf script.settings commands turns r memory → SetsName kept after name (image_bytes_of (sizes_of script.settings) (image_of memory (choosing script.keep memory)))
-    → IsSaved name left rest kept after script r memory
-saved_of name left rest kept after script commands turns r memory built gave alone told set = record {
-  source = record { built = built; read = gave };
-  told = tells_of (program_of script) commands turns r memory alone told;
-  not_stalled = told.outcome.not_stalled;
-  set = set;
-}
+-- what its status tells
 
--- of the text of its report something is said
-run_of : (name : List ℕ) (left rest : Option (List ℕ)) (kept after : Option Named) (script : Script) (r : ReportState) (memory : List BankState) (outcome : Outcome) (IsReported : List ℕ → Type 0) → IsSaved name left rest kept after script r memory
-    → r.outcome ≡ outcome → IsReported (report_bytes r) → HasRun left rest kept after name memory outcome IsReported
-run_of name left rest kept after script r memory outcome IsReported saved is reported = record {
-  program = program_of script;
-  source = saved.source;
-  report = r;
-  told = saved.told;
-  ended = is;
-  saved = record { keep = script.keep; kept = refl; set = saved.set };
-  reported = reported;
-}
+-- nothing was appended, which is a first part of each text
+appended_none : (held : Option (List ℕ)) (text : List ℕ) → AppendedSome held held text
+appended_none None text = (0, tt)
+appended_none (Some old) text = (0, sym (append-nil old))
 
--- what the status tells where the report was written, or could not be
-pub written : (name : List ℕ) (left rest : Option (List ℕ)) (reads reads_now : ℕ) (held held_now : Option (List ℕ)) (writes writes_now : ℕ) (kept after : Option Named) (saves saves_now : ℕ)
-    (script : Script) (r : ReportState) (memory : List BankState) (status : Status) → IsSaved name left rest kept after script r memory → Writes held held_now writes writes_now (report_bytes r) r.outcome status
-    → StartTells name (outside left reads held writes kept saves) (outside rest reads_now held_now writes_now after saves_now) memory status
-written name left rest reads reads_now held held_now writes writes_now kept after saves saves_now script r memory statuses.Finished saved w = run_of name left rest kept after script r memory ends.Finished _ saved w.0 w.1
-written name left rest reads reads_now held held_now writes writes_now kept after saves saves_now script r memory statuses.Cut saved w = run_of name left rest kept after script r memory ends.Cut _ saved w.0 w.1
-written name left rest reads reads_now held held_now writes writes_now kept after saves saves_now script r memory statuses.WriteFault saved w = (w.0, (r.outcome, run_of name left rest kept after script r memory r.outcome _ saved refl w.1))
-written name left rest reads reads_now held held_now writes writes_now kept after saves saves_now script r memory statuses.OutOfMemory saved w = record { left = inr (program_of script, r, saved.told); others = others_set kept after name _ saved.set }
-written name left rest reads reads_now held held_now writes writes_now kept after saves saves_now script r memory statuses.Stalled saved w = saved.not_stalled w.0
-written name left rest reads reads_now held held_now writes writes_now kept after saves saves_now script r memory (statuses.Script f) saved w = absurd w
-written name left rest reads reads_now held held_now writes writes_now kept after saves saves_now script r memory statuses.Usage saved w = w
-written name left rest reads reads_now held held_now writes writes_now kept after saves saves_now script r memory statuses.ReadFault saved w = absurd w
-written name left rest reads reads_now held held_now writes writes_now kept after saves saves_now script r memory statuses.StoreFault saved w = absurd w
-written name left rest reads reads_now held held_now writes writes_now kept after saves saves_now script r memory statuses.NoImage saved w = w
-written name left rest reads reads_now held held_now writes writes_now kept after saves saves_now script r memory statuses.TooLong saved w = absurd w
+-- nothing was appended, where what is held is the same
+held_none : (held held_now : Option (List ℕ)) (text : List ℕ) → held_now ≡ held → AppendedSome held held_now text
+held_none held held_now text same = subst (λ (h : Option (List ℕ)). AppendedSome held h text) (sym same) (appended_none held text)
 
--- what it tells where the image could not be saved
-pub unsaved : (name : List ℕ) (left rest : Option (List ℕ)) (reads reads_now : ℕ) (held : Option (List ℕ)) (writes writes_now : ℕ) (kept after : Option Named) (saves saves_now : ℕ)
-    (p : Program) (r : ReportState) (memory : List BankState) (bytes : List ℕ) (status : Status) → HasRead left rest p → TellsOf p memory r → Saves kept after saves saves_now name bytes (Err status)
-    → StartTells name (outside left reads held writes kept saves) (outside rest reads_now held writes_now after saves_now) memory status
-unsaved name left rest reads reads_now held writes writes_now kept after saves saves_now p r memory bytes statuses.StoreFault read told s = record {
-  rose = s.0;
-  led = record { program = p; source = read; report = r; told = told };
-  others = s.1;
-  held = refl;
-}
-unsaved name left rest reads reads_now held writes writes_now kept after saves saves_now p r memory bytes statuses.OutOfMemory read told s = record { left = inr (p, r, told); others = s }
-unsaved name left rest reads reads_now held writes writes_now kept after saves saves_now p r memory bytes statuses.Finished read told s = absurd s
-unsaved name left rest reads reads_now held writes writes_now kept after saves saves_now p r memory bytes statuses.Cut read told s = absurd s
-unsaved name left rest reads reads_now held writes writes_now kept after saves saves_now p r memory bytes statuses.WriteFault read told s = absurd s
-unsaved name left rest reads reads_now held writes writes_now kept after saves saves_now p r memory bytes statuses.Stalled read told s = s
-unsaved name left rest reads reads_now held writes writes_now kept after saves saves_now p r memory bytes (statuses.Script f) read told s = absurd s
-unsaved name left rest reads reads_now held writes writes_now kept after saves saves_now p r memory bytes statuses.Usage read told s = s
-unsaved name left rest reads reads_now held writes writes_now kept after saves saves_now p r memory bytes statuses.ReadFault read told s = absurd s
-unsaved name left rest reads reads_now held writes writes_now kept after saves saves_now p r memory bytes statuses.NoImage read told s = s
-unsaved name left rest reads reads_now held writes writes_now kept after saves saves_now p r memory bytes statuses.TooLong read told s = absurd s
+-- the whole of a text is a first part of it
+appended_all : (held held_now : Option (List ℕ)) (text : List ℕ) → Appended held held_now text → AppendedSome held held_now text
+appended_all held held_now text all = (length text, subst (λ (t : List ℕ). Appended held held_now t) (sym (take-length text)) all)
 
--- nothing was written or saved, and no life began
-untouched : (left rest : Option (List ℕ)) (reads reads_now : ℕ) (held : Option (List ℕ)) (writes : ℕ) (kept : Option Named) (saves : ℕ) (memory : List BankState) → memory ≡ []
-    → IsUntouched (outside left reads held writes kept saves) (outside rest reads_now held writes kept saves) memory
-untouched left rest reads reads_now held writes kept saves memory none = record { held = refl; kept = refl; memory_is = none }
+-- the words ask for the image of this life
+asked : (words : List (List ℕ)) (name : List ℕ) (led : Led) → IsStart words name → led.name ≡ name → IsStart words led.name
+asked words name led start named = subst (IsStart words) (sym named) start
 
--- what it tells where memory ran out before a life was told
-pub unled : (name : List ℕ) (left rest : Option (List ℕ)) (reads reads_now : ℕ) (held : Option (List ℕ)) (writes : ℕ) (kept : Option Named) (saves : ℕ) (memory : List BankState) → memory ≡ []
-    → StartTells name (outside left reads held writes kept saves) (outside rest reads_now held writes kept saves) memory statuses.OutOfMemory
-unled name left rest reads reads_now held writes kept saves memory none = record { left = inl none; others = others_same kept name }
+-- what a start tells whose status is want of memory
+abbrev pub IsStarved : List (List ℕ) → Ports → Ports → List BankState → Type 0
+IsStarved words old new memory = (TookSome old.left new.left × IsUntouched old.held new.held old.kept new.kept memory)
+    ⊎ ((led : Led) × IsStart words led.name × IsLed old.left new.left memory led × OthersSame old.kept new.kept led.name × AppendedSome old.held new.held (report_bytes led.report))
 
--- what it tells where reading refused
-pub unread : (name : List ℕ) (left rest : Option (List ℕ)) (reads reads_now : ℕ) (held : Option (List ℕ)) (writes : ℕ) (kept : Option Named) (saves : ℕ) (memory : List BankState) (status : Status) → memory ≡ [] → Reads left rest reads reads_now (Err status)
-    → StartTells name (outside left reads held writes kept saves) (outside rest reads_now held writes kept saves) memory status
-unread name left rest reads reads_now held writes kept saves memory (statuses.Script f) none r = (r, untouched left rest reads reads_now held writes kept saves memory none)
-unread name left rest reads reads_now held writes kept saves memory statuses.ReadFault none r = (r, untouched left rest reads reads_now held writes kept saves memory none)
-unread name left rest reads reads_now held writes kept saves memory statuses.TooLong none r = (r, untouched left rest reads reads_now held writes kept saves memory none)
-unread name left rest reads reads_now held writes kept saves memory statuses.OutOfMemory none r = unled name left rest reads reads_now held writes kept saves memory none
-unread name left rest reads reads_now held writes kept saves memory statuses.Finished none r = absurd r
-unread name left rest reads reads_now held writes kept saves memory statuses.Usage none r = r
-unread name left rest reads reads_now held writes kept saves memory statuses.Stalled none r = r
-unread name left rest reads reads_now held writes kept saves memory statuses.Cut none r = absurd r
-unread name left rest reads reads_now held writes kept saves memory statuses.WriteFault none r = absurd r
-unread name left rest reads reads_now held writes kept saves memory statuses.StoreFault none r = absurd r
-unread name left rest reads reads_now held writes kept saves memory statuses.NoImage none r = r
+-- of a life whose image is saved
+starved_saved : (words : List (List ℕ)) (name : List ℕ) (old new : Ports) (memory : List BankState) → IsStart words name → IsUnwritten name old new memory → IsStarved words old new memory
+starved_saved words name old new memory start s = inr (s.led, asked words name s.led start s.named, s.is_led, others_set old.kept new.kept s.led.name _ s.saved.set, s.some)
 
--- where reading refused, its status is that of the start
-pub read_refused : (bytes : List ℕ) (status : Status) → IsReadDecided bytes (Err status) → IsDecided bytes status
-read_refused bytes status d = record {
-  carried_out = λ few p built. inr (inr (d.script few p built));
-  finished = λ few p built many. inr (d.script few p built);
-  refused = d.refused;
-  too_long = d.too_long;
-}
+-- of a life whose image is not saved
+starved_unsaved : (words : List (List ℕ)) (name : List ℕ) (old new : Ports) (memory : List BankState) → IsStart words name → IsUnsaved name old new memory → IsStarved words old new memory
+starved_unsaved words name old new memory start s =
+    inr (s.led, asked words name s.led start s.named, s.is_led, subst (λ (n : List ℕ). OthersSame old.kept new.kept n) (sym s.named) s.others, held_none old.held new.held (report_bytes s.led.report) s.held_same)
 
--- where reading gave a script and memory ran out, the bytes may still be of any script
-pub starved : (bytes : List ℕ) (script : Script) → IsReadDecided bytes (Ok script) → IsDecided bytes statuses.OutOfMemory
-starved bytes script d = record {
-  carried_out = λ few p built. inr (inr refl);
-  finished = λ few p built many. inr refl;
-  refused = λ few other. inr refl;
-  too_long = λ many. inr refl;
-}
+-- where memory ran out
+pub starves : (words : List (List ℕ)) (name : List ℕ) (old new : Ports) (memory : List BankState) (result : Result Outcome NoReport) → IsStart words name → IfOk result (HasReported name old new memory)
+    → IfErr result (IsUnreported name old new memory) → status_of_start result ≡ statuses.OutOfMemory → IsStarved words old new memory
+starves words name old new memory (Ok ends.Finished) start r u is = absurd (cc is)
+starves words name old new memory (Ok ends.Stalled) start r u is = absurd (cc is)
+starves words name old new memory (Ok ends.Cut) start r u is = absurd (cc is)
+starves words name old new memory (Ok ends.Starved) start r u is =
+    inr (r.led, asked words name r.led start r.named, r.is_led, others_set old.kept new.kept r.led.name _ r.saved.set, appended_all old.held new.held (report_bytes r.led.report) r.appended)
+starves words name old new memory (Err (Unread scripts.Failed)) start r u is = absurd (cc is)
+starves words name old new memory (Err (Unread scripts.TooLong)) start r u is = absurd (cc is)
+starves words name old new memory (Err (Unread (scripts.Fault f))) start r u is = absurd (cc is)
+starves words name old new memory (Err (Unread scripts.OutOfMemory)) start r u is = inl (u.1.took, u.1.untouched)
+starves words name old new memory (Err Untold) start r u is = inl (u.took, u.untouched)
+starves words name old new memory (Err (Unsaved stores.Failed)) start r u is = absurd (cc is)
+starves words name old new memory (Err (Unsaved stores.OutOfMemory)) start r u is = starved_unsaved words name old new memory start u.1
+starves words name old new memory (Err (Unwritten stores.Failed)) start r u is = absurd (cc is)
+starves words name old new memory (Err (Unwritten stores.OutOfMemory)) start r u is = starved_saved words name old new memory start u.1
 
--- where saving refused and the store did not fail, memory ran out
-pub save_refused : (bytes : List ℕ) (script : Script) (status : Status) (kept after : Option Named) (saves saves_now : ℕ) (name image : List ℕ) → IsReadDecided bytes (Ok script) → Saves kept after saves saves_now name image (Err status)
-    → (Rose saves saves_now → ⊥) → IsDecided bytes status
-save_refused bytes script statuses.OutOfMemory kept after saves saves_now name image d s quiet = starved bytes script d
-save_refused bytes script statuses.StoreFault kept after saves saves_now name image d s quiet = absurd (quiet s.0)
-save_refused bytes script statuses.Finished kept after saves saves_now name image d s quiet = absurd s
-save_refused bytes script statuses.Usage kept after saves saves_now name image d s quiet = absurd s
-save_refused bytes script (statuses.Script f) kept after saves saves_now name image d s quiet = absurd s
-save_refused bytes script statuses.Stalled kept after saves saves_now name image d s quiet = absurd s
-save_refused bytes script statuses.Cut kept after saves saves_now name image d s quiet = absurd s
-save_refused bytes script statuses.ReadFault kept after saves saves_now name image d s quiet = absurd s
-save_refused bytes script statuses.WriteFault kept after saves saves_now name image d s quiet = absurd s
-save_refused bytes script statuses.NoImage kept after saves saves_now name image d s quiet = absurd s
-save_refused bytes script statuses.TooLong kept after saves saves_now name image d s quiet = absurd s
+-- which status it is
+
+-- the cause of a refusal, where a fault has one
+pub cause_of : (refusal : StoreRefusal) (faults faults_now : ℕ) → (refusal ≡ stores.Failed → Rose faults faults_now) → HasCause refusal faults faults_now
+cause_of stores.Failed faults faults_now rose = rose refl
+cause_of stores.OutOfMemory faults faults_now rose = tt
 
 -- the bytes that a source gave are those that it had
 pub given : (left rest : Option (List ℕ)) (bytes text : List ℕ) → Gave left rest text → left ≡ Some bytes → bytes ≡ text
@@ -171,21 +123,18 @@ given left rest bytes text gave told = given_all rest bytes text (subst (λ (l :
     given_all (Some new) bytes text g = g.0
 
 -- a life that is not stalled is cut or finished, unless memory ran out
-cut_or_finished : (outcome : Outcome) (status : Status) → outcome ≢ ends.Stalled → IsUnlessStarved (status_of_end outcome) status → (status ≡ statuses.Cut) ⊎ IsUnlessStarved statuses.Finished status
-cut_or_finished ends.Finished status some e = inr e
-cut_or_finished ends.Stalled status some e = absurd (some refl)
-cut_or_finished ends.Cut status some (inl e) = inl e
-cut_or_finished ends.Cut status some (inr e) = inr (inr e)
-cut_or_finished ends.Starved status some (inl e) = inr (inr e)
-cut_or_finished ends.Starved status some (inr e) = inr (inr e)
+cut_or_finished : (outcome : Outcome) → outcome ≢ ends.Stalled → (status_of_end outcome ≡ statuses.Cut) ⊎ IsUnlessStarved statuses.Finished (status_of_end outcome)
+cut_or_finished ends.Finished some = inr (inl refl)
+cut_or_finished ends.Stalled some = absurd (some refl)
+cut_or_finished ends.Cut some = inl refl
+cut_or_finished ends.Starved some = inr (inr refl)
 
 -- a life that is not cut either is finished
-finished : (outcome : Outcome) (status : Status) → outcome ≢ ends.Stalled → outcome ≢ ends.Cut → IsUnlessStarved (status_of_end outcome) status → IsUnlessStarved statuses.Finished status
-finished ends.Finished status some more e = e
-finished ends.Stalled status some more e = absurd (some refl)
-finished ends.Cut status some more e = absurd (more refl)
-finished ends.Starved status some more (inl e) = inr e
-finished ends.Starved status some more (inr e) = inr e
+finished : (outcome : Outcome) → outcome ≢ ends.Stalled → outcome ≢ ends.Cut → IsUnlessStarved statuses.Finished (status_of_end outcome)
+finished ends.Finished some more = inl refl
+finished ends.Stalled some more = absurd (some refl)
+finished ends.Cut some more = absurd (more refl)
+finished ends.Starved some more = inr refl
 
 -- turns that are enough for a program are enough for its one thread
 many_turns : (p : Program) (commands : List Command) (turns : ℕ) → IsAlone p commands turns → HasEnoughTurns p.turns p.threads → 128 * (length commands + 1) ≤ turns
@@ -193,13 +142,14 @@ many_turns p commands turns alone many =
     subst (λ (t : Turns). HasEnoughTurns t (commands ∷ [])) alone.rounds (subst (λ (ts : List (List Command)). HasEnoughTurns p.turns ts) alone.thread many)
 
 -- where reading gave a script, its life decides on the status
-pub read_given : (bytes : List ℕ) (script : Script) (commands : List Command) (turns : ℕ) (outcome : Outcome) (status : Status) → IsReadDecided bytes (Ok script) → IsBuiltText (text_of (program_of script)) (program_of script)
-    → bytes ≡ text_of (program_of script) → IsAlone (program_of script) commands turns → IsOutcomeIn (length commands) turns outcome → IsUnlessStarved (status_of_end outcome) status → IsDecided bytes status
-read_given bytes script commands turns outcome status d built is alone out e = record {
-  carried_out = λ few p other. cut_or_finished outcome status out.not_stalled e;
+pub read_given : (left rest : Option (List ℕ)) (bytes : List ℕ) (script : Script) (commands : List Command) (turns : ℕ) (outcome : Outcome) → IsReadDecided bytes (Ok script) → HasRead left rest (program_of script) → left ≡ Some bytes
+    → IsAlone (program_of script) commands turns → IsOutcomeIn (length commands) turns outcome → IsDecided bytes (status_of_start (Ok outcome))
+read_given left rest bytes script commands turns outcome d read told alone out = record {
+  carried_out = λ few p other. cut_or_finished outcome out.not_stalled;
   finished = λ few p other many.
-      let same : p ≡ program_of script = one_text p (program_of script) other.text.within built.text.within (sym other.text.text ∙ is) in
-      finished outcome status out.not_stalled (out.enough (many_turns (program_of script) commands turns alone (subst (λ (q : Program). HasEnoughTurns q.turns q.threads) same many))) e;
+      let is : bytes ≡ text_of (program_of script) = given left rest bytes (text_of (program_of script)) read.read told in
+      let same : p ≡ program_of script = one_text p (program_of script) other.text.within read.built.text.within (sym other.text.text ∙ is) in
+      finished outcome out.not_stalled (out.enough (many_turns (program_of script) commands turns alone (subst (λ (q : Program). HasEnoughTurns q.turns q.threads) same many)));
   refused = λ few other. absurd (d.refused few other);
   too_long = λ many. absurd (d.too_long many);
 }

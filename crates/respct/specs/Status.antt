@@ -1,9 +1,16 @@
--- The code of each status.
-use Rattle.std.specs.Prelude.{ℕ}
+-- The code of each status, and the line that tells it.
+use Rattle.std.specs.Prelude.{ℕ, List, ◌++◌, codes, Result, Ok, Err}
+use Rattle.std.specs.Fmt.{decimal}
+use Rattle.byte_ports.specs.declared.refusal.StoreRefusal.TheVariants as stores
 use Rattle.life_model.specs.declared.life.Outcome.{Outcome}
 use Rattle.life_model.specs.declared.life.Outcome.TheVariants as ends
+use Rattle.script_text.specs.Faults.{kind_text}
+use Rattle.respct.specs.declared.reading.NoScript.TheVariants as scripts
+use Rattle.respct.specs.declared.start.NoReport.{NoReport}
+use Rattle.respct.specs.declared.start.NoReport.TheVariants.{Unread, Untold, Unsaved, Unwritten}
 use Rattle.respct.specs.declared.status.Status.{Status}
-use Rattle.respct.specs.declared.status.Status.TheVariants.{Finished, Usage, Script, Stalled, Cut, ReadFault, WriteFault, StoreFault, NoImage, OutOfMemory, TooLong}
+use Rattle.respct.specs.declared.status.Status.TheVariants.{Finished, Usage, Script, Stalled, Cut, ReadFault, WriteFault, StoreFault}
+use Rattle.respct.specs.declared.status.Status.TheVariants.{NoImage, OutOfMemory, TooLong}
 
 -- the code with which the program exits
 abbrev pub code_of : Status → ℕ
@@ -19,9 +26,54 @@ code_of NoImage = 10
 code_of OutOfMemory = 11
 code_of TooLong = 12
 
+-- the line that tells the status, without its end
+abbrev pub status_text : Status → List ℕ
+status_text Finished = codes "finished"
+status_text Usage = codes "usage: respct start, resume or check with --image NAME, or respct drill N"
+status_text (Script fault) = codes "script: line " ++ decimal fault.line ++ codes ": " ++ kind_text fault.kind
+status_text Stalled = codes "stalled"
+status_text Cut = codes "cut"
+status_text ReadFault = codes "cannot read the script"
+status_text WriteFault = codes "cannot write the report"
+status_text StoreFault = codes "cannot use the image store"
+status_text NoImage = codes "no such image"
+status_text OutOfMemory = codes "out of memory"
+status_text TooLong = codes "script too long"
+
+-- the status says why the call was refused: it is not one of how a life ended, want of memory apart
+abbrev pub IsRefusal : Status → Type 0
+IsRefusal Finished = ⊥
+IsRefusal Usage = Unit {0}
+IsRefusal (Script fault) = Unit {0}
+IsRefusal Stalled = ⊥
+IsRefusal Cut = ⊥
+IsRefusal ReadFault = Unit {0}
+IsRefusal WriteFault = Unit {0}
+IsRefusal StoreFault = Unit {0}
+IsRefusal NoImage = Unit {0}
+IsRefusal OutOfMemory = Unit {0}
+IsRefusal TooLong = Unit {0}
+
 -- the status of a life that ended so
 abbrev pub status_of_end : Outcome → Status
 status_of_end ends.Finished = Finished
 status_of_end ends.Stalled = Stalled
 status_of_end ends.Cut = Cut
 status_of_end ends.Starved = OutOfMemory
+
+-- the status of a start without its report
+abbrev pub status_of_refusal : NoReport → Status
+status_of_refusal (Unread scripts.Failed) = ReadFault
+status_of_refusal (Unread scripts.TooLong) = TooLong
+status_of_refusal (Unread (scripts.Fault fault)) = Script fault
+status_of_refusal (Unread scripts.OutOfMemory) = OutOfMemory
+status_of_refusal Untold = OutOfMemory
+status_of_refusal (Unsaved stores.Failed) = StoreFault
+status_of_refusal (Unsaved stores.OutOfMemory) = OutOfMemory
+status_of_refusal (Unwritten stores.Failed) = WriteFault
+status_of_refusal (Unwritten stores.OutOfMemory) = OutOfMemory
+
+-- the status of a start
+abbrev pub status_of_start : Result Outcome NoReport → Status
+status_of_start (Ok outcome) = status_of_end outcome
+status_of_start (Err refusal) = status_of_refusal refusal

@@ -1,69 +1,52 @@
 -- What the steps of a start tell: reading the script, leading its life, saving the image, and writing the report.
-use Rattle.std.specs.Prelude.{◌≡◌, ◌≢◌, ℕ, ◌+◌, ◌*◌, ◌≤◌, ◌<◌, Option, List, length, Result, Ok, Err}
-use Rattle.byte_ports.specs.Bytes.{Gave, Appended, AppendedSome}
+use Rattle.std.specs.Prelude.{◌≡◌, ◌≢◌, ◌⊎◌, ℕ, ◌+◌, ◌*◌, ◌≤◌, ◌<◌, Option, List, [], ◌∷◌, length, Result, Ok, Err}
+use Rattle.byte_ports.specs.Bytes.{TookSome, Appended, AppendedSome}
 use Rattle.byte_ports.specs.Causes.{Rose}
-use Rattle.byte_ports.specs.Images.{Named, SetsName, OthersSame}
+use Rattle.byte_ports.specs.Images.{Named, OthersSame}
+use Rattle.byte_ports.specs.declared.refusal.StoreRefusal.{StoreRefusal}
+use Rattle.byte_ports.specs.declared.refusal.StoreRefusal.TheVariants as stores
 use Rattle.seq_object.specs.declared.settings.Settings.{Settings}
 use Rattle.seq_object.specs.declared.command.Command.{Command}
-use Rattle.script_text.specs.declared.script.Script.{Script}
-use Rattle.script_text.specs.Faults.{fault}
-use Rattle.script_text.specs.Program.{Program, program_of}
-use Rattle.script_text.specs.Text.{text_of}
-use Rattle.script_text.specs.Built.{IsBuiltText, IsNotBuilt}
 use Rattle.line_memory.specs.Line.{BankState}
 use Rattle.life_model.specs.declared.life.Outcome.{Outcome}
 use Rattle.life_model.specs.declared.life.Outcome.TheVariants as ends
-use Rattle.script_text.specs.ReportText.{ReportState}
-use Rattle.respct.specs.declared.status.Status.{Status}
-use Rattle.respct.specs.declared.status.Status.TheVariants as statuses
-use Rattle.solo_life.specs.Life.{opening_with}
-use Rattle.respct.specs.Run.{HasLived, IsStartReport}
-use Rattle.respct.specs.Answers.{IsNoScript, TookTooMuch, script_limit, IsUnlessStarved}
+use Rattle.respct.specs.Run.{script_limit, Led, IsLed, HasSaved}
+use Rattle.respct.specs.Answers.{IsNoScript, TookTooMuch, IsUntouched}
+use Rattle.life_model.specs.Told.{ReportState, TellsOf}
+use Rattle.life_model.specs.Life.{start_of}
+use Rattle.script_text.specs.declared.script.Script.{Script}
+use Rattle.script_text.specs.Faults.{fault}
+use Rattle.script_text.specs.Program.{Program}
+use Rattle.script_text.specs.ReportText.{report_bytes}
+use Rattle.script_text.specs.ReportLimits.{HasReportText}
+use Rattle.script_text.specs.Built.{IsBuiltText, IsNotBuilt}
+use Rattle.respct.specs.declared.reading.NoScript.{NoScript}
+use Rattle.respct.specs.declared.start.NoReport.{NoReport}
+use Rattle.respct.specs.declared.start.NoReport.TheVariants.{Unread, Untold, Unsaved, Unwritten}
+use Rattle.respct.specs.declared.reading.NoScript.TheVariants as scripts
 
--- what is read is the script of all the source's bytes, or the cause is told why there is none
-abbrev pub Reads : Option (List ℕ) → Option (List ℕ) → ℕ → ℕ → Result Script Status → Type 0
-Reads old new before now (Ok script) = IsBuiltText (text_of (program_of script)) (program_of script) × Gave old new (text_of (program_of script))
-Reads old new before now (Err (statuses.Script f)) = IsNoScript old new f
-Reads old new before now (Err statuses.ReadFault) = Rose before now
-Reads old new before now (Err statuses.TooLong) = TookTooMuch old new
-Reads old new before now (Err statuses.OutOfMemory) = Unit {0}
-Reads old new before now (Err statuses.Finished) = ⊥
-Reads old new before now (Err statuses.Usage) = ⊥
-Reads old new before now (Err statuses.Stalled) = ⊥
-Reads old new before now (Err statuses.Cut) = ⊥
-Reads old new before now (Err statuses.WriteFault) = ⊥
-Reads old new before now (Err statuses.StoreFault) = ⊥
-Reads old new before now (Err statuses.NoImage) = ⊥
+-- the cause for which there is no script; want of memory is free
+abbrev pub IsUnread : Option (List ℕ) → Option (List ℕ) → ℕ → ℕ → NoScript → Type 0
+IsUnread left rest faults faults_now scripts.Failed = Rose faults faults_now
+IsUnread left rest faults faults_now scripts.TooLong = TookTooMuch left rest
+IsUnread left rest faults faults_now (scripts.Fault f) = IsNoScript left rest f
+IsUnread left rest faults faults_now scripts.OutOfMemory = Unit {0}
 
 -- reading gave a script, or memory ran out
-abbrev pub IsScriptUnlessStarved : Result Script Status → Type 0
+abbrev pub IsScriptUnlessStarved : Result Script NoScript → Type 0
 IsScriptUnlessStarved (Ok script) = Unit {0}
-IsScriptUnlessStarved (Err status) = status ≡ statuses.OutOfMemory
+IsScriptUnlessStarved (Err refusal) = refusal ≡ scripts.OutOfMemory
 
--- reading refused with this status, or memory ran out
-abbrev pub IsRefusedUnlessStarved : Status → Result Script Status → Type 0
+-- reading was refused so, or memory ran out
+abbrev pub IsRefusedUnlessStarved : NoScript → Result Script NoScript → Type 0
 IsRefusedUnlessStarved wanted (Ok script) = ⊥
-IsRefusedUnlessStarved wanted (Err status) = IsUnlessStarved wanted status
+IsRefusedUnlessStarved wanted (Err refusal) = (refusal ≡ wanted) ⊎ (refusal ≡ scripts.OutOfMemory)
 
 -- to what these bytes lead where the source does not fail
-pub record IsReadDecided (bytes : List ℕ) (result : Result Script Status) : Type 0 where
+pub record IsReadDecided (bytes : List ℕ) (result : Result Script NoScript) : Type 0 where
   pub script : length bytes ≤ script_limit → (p : Program) → IsBuiltText bytes p → IsScriptUnlessStarved result
-  pub refused : length bytes ≤ script_limit → IsNotBuilt bytes → IsRefusedUnlessStarved (statuses.Script (fault 0 0)) result
-  pub too_long : script_limit < length bytes → IsRefusedUnlessStarved statuses.TooLong result
-
--- what writing the report of a life that ended so tells: it is appended, or the cause is told why only a part of it was
-abbrev pub Writes : Option (List ℕ) → Option (List ℕ) → ℕ → ℕ → List ℕ → Outcome → Status → Type 0
-Writes old new before now text outcome statuses.Finished = (outcome ≡ ends.Finished) × Appended old new text
-Writes old new before now text outcome statuses.Stalled = (outcome ≡ ends.Stalled) × Appended old new text
-Writes old new before now text outcome statuses.Cut = (outcome ≡ ends.Cut) × Appended old new text
-Writes old new before now text outcome statuses.WriteFault = Rose before now × AppendedSome old new text
-Writes old new before now text outcome statuses.OutOfMemory = Unit {0}
-Writes old new before now text outcome (statuses.Script f) = ⊥
-Writes old new before now text outcome statuses.Usage = ⊥
-Writes old new before now text outcome statuses.ReadFault = ⊥
-Writes old new before now text outcome statuses.StoreFault = ⊥
-Writes old new before now text outcome statuses.NoImage = ⊥
-Writes old new before now text outcome statuses.TooLong = ⊥
+  pub refused : length bytes ≤ script_limit → IsNotBuilt bytes → IsRefusedUnlessStarved (scripts.Fault (fault 0 0)) result
+  pub too_long : script_limit < length bytes → IsRefusedUnlessStarved scripts.TooLong result
 
 -- the outcome of a life of so many commands that had so many turns: it is not stalled, and with turns enough it is not cut
 pub record IsOutcomeIn (commands turns : ℕ) (outcome : Outcome) : Type 0 where
@@ -72,21 +55,64 @@ pub record IsOutcomeIn (commands turns : ℕ) (outcome : Outcome) : Type 0 where
 
 -- a report is of a start of this thread with so many turns, and tells of its life and of the memory that it left
 pub record IsReportOf (settings : Settings) (commands : List Command) (turns : ℕ) (r : ReportState) (memory : List BankState) : Type 0 where
-  pub started : IsStartReport r
-  pub lived : HasLived (opening_with settings commands) r memory
+  pub told : TellsOf (start_of settings (commands ∷ [])) [] 0 r memory
+  pub within : HasReportText r
   pub outcome : IsOutcomeIn (length commands) turns r.outcome
 
--- what saving the image of a memory tells: it is kept under the name, or the cause is told why not; no other name has changed
-abbrev pub Saves : Option Named → Option Named → ℕ → ℕ → List ℕ → List ℕ → Result Unit Status → Type 0
-Saves old new before now name bytes (Ok done) = SetsName old new name bytes
-Saves old new before now name bytes (Err statuses.StoreFault) = Rose before now × OthersSame old new name
-Saves old new before now name bytes (Err statuses.OutOfMemory) = OthersSame old new name
-Saves old new before now name bytes (Err statuses.Finished) = ⊥
-Saves old new before now name bytes (Err statuses.Usage) = ⊥
-Saves old new before now name bytes (Err (statuses.Script f)) = ⊥
-Saves old new before now name bytes (Err statuses.Stalled) = ⊥
-Saves old new before now name bytes (Err statuses.Cut) = ⊥
-Saves old new before now name bytes (Err statuses.ReadFault) = ⊥
-Saves old new before now name bytes (Err statuses.WriteFault) = ⊥
-Saves old new before now name bytes (Err statuses.NoImage) = ⊥
-Saves old new before now name bytes (Err statuses.TooLong) = ⊥
+-- what the source, the sink and the image store tell: the bytes that are left, those that were written, the images by name, and how many
+-- calls of each have failed
+pub record Ports : Type 0 where
+  pub left : Option (List ℕ)
+  pub read_faults : ℕ
+  pub held : Option (List ℕ)
+  pub write_faults : ℕ
+  pub kept : Option Named
+  pub image_faults : ℕ
+
+-- what they tell, one after the other
+abbrev pub ports : Option (List ℕ) → ℕ → Option (List ℕ) → ℕ → Option Named → ℕ → Ports
+ports left read_faults held write_faults kept image_faults =
+    record { left = left; read_faults = read_faults; held = held; write_faults = write_faults; kept = kept; image_faults = image_faults }
+
+-- a life was led and ended so, its image is saved under this name, and its whole report was appended
+pub record HasReported (name : List ℕ) (old new : Ports) (memory : List BankState) (outcome : Outcome) : Type 0 where
+  pub led : Led
+  pub named : led.name ≡ name
+  pub is_led : IsLed old.left new.left memory led
+  pub saved : HasSaved old.kept new.kept memory led
+  pub appended : Appended old.held new.held (report_bytes led.report)
+  pub ended : led.report.outcome ≡ outcome
+  pub not_stalled : outcome ≢ ends.Stalled
+
+-- a store or a sink refused: by a fault, or for want of memory, which is free
+abbrev pub HasCause : StoreRefusal → ℕ → ℕ → Type 0
+HasCause stores.Failed faults faults_now = Rose faults faults_now
+HasCause stores.OutOfMemory faults faults_now = Unit {0}
+
+-- no life is told: some of the source's bytes were taken, and nothing else was done
+pub record IsUntold (old new : Ports) (memory : List BankState) : Type 0 where
+  pub took : TookSome old.left new.left
+  pub untouched : IsUntouched old.held new.held old.kept new.kept memory
+
+-- a life was led; its image could not be saved, so that what is under this name is open; nothing was written
+pub record IsUnsaved (name : List ℕ) (old new : Ports) (memory : List BankState) : Type 0 where
+  pub led : Led
+  pub named : led.name ≡ name
+  pub is_led : IsLed old.left new.left memory led
+  pub others : OthersSame old.kept new.kept name
+  pub held_same : new.held ≡ old.held
+
+-- a life was led and its image is saved under this name; of its report a first part was appended
+pub record IsUnwritten (name : List ℕ) (old new : Ports) (memory : List BankState) : Type 0 where
+  pub led : Led
+  pub named : led.name ≡ name
+  pub is_led : IsLed old.left new.left memory led
+  pub saved : HasSaved old.kept new.kept memory led
+  pub some : AppendedSome old.held new.held (report_bytes led.report)
+
+-- what a start without its report tells: its cause, and what is left
+abbrev pub IsUnreported : List ℕ → Ports → Ports → List BankState → NoReport → Type 0
+IsUnreported name old new memory (Unread refusal) = IsUnread old.left new.left old.read_faults new.read_faults refusal × IsUntold old new memory
+IsUnreported name old new memory Untold = IsUntold old new memory
+IsUnreported name old new memory (Unsaved refusal) = HasCause refusal old.image_faults new.image_faults × IsUnsaved name old new memory
+IsUnreported name old new memory (Unwritten refusal) = HasCause refusal old.write_faults new.write_faults × IsUnwritten name old new memory

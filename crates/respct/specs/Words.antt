@@ -1,5 +1,7 @@
 -- The words after the program's name.
 use Rattle.std.specs.Prelude.{◌≡◌, ◌≢◌, ◌⊎◌, ℕ, List, [], ◌∷◌, ◌++◌, codes}
+use Rattle.respct.specs.declared.words.Form.{Form}
+use Rattle.respct.specs.declared.words.Form.TheVariants as forms
 
 -- a name of an image: it is not empty, and does not begin with a dash
 abbrev pub IsName : List ℕ → Type 0
@@ -10,11 +12,21 @@ IsName (b ∷ bs) = b ≢ 45
 abbrev pub default_name : List ℕ
 default_name = codes "respct.image"
 
--- the words of a start, and the name of its image: none is given, or one in a word of its own, or one behind an equals sign
-abbrev pub IsStart : List (List ℕ) → List ℕ → Type 0
-IsStart words name = ((words ≡ codes "start" ∷ []) × (name ≡ default_name))
-    ⊎ (IsName name × ((words ≡ codes "start" ∷ codes "--image" ∷ name ∷ []) ⊎ (words ≡ codes "start" ∷ (codes "--image=" ++ name) ∷ [])))
+-- these words give the name of an image: there are none, or the name is in a word of its own, or behind an equals sign
+abbrev pub AreNaming : List (List ℕ) → List ℕ → Type 0
+AreNaming options name = ((options ≡ []) × (name ≡ default_name))
+    ⊎ (IsName name × ((options ≡ codes "--image" ∷ name ∷ []) ⊎ (options ≡ (codes "--image=" ++ name) ∷ [])))
 
--- the words of no start
-abbrev pub IsNoStart : List (List ℕ) → Type 0
-IsNoStart words = (name : List ℕ) → IsStart words name → ⊥
+-- the words of a start, and the name of its image
+pub record IsStart (words : List (List ℕ)) (name : List ℕ) : Type 0 where
+  pub options : List (List ℕ)
+  pub first : words ≡ codes "start" ∷ options
+  pub naming : AreNaming options name
+
+-- these are the words of a form
+abbrev pub AreWordsOf : List (List ℕ) → Form → Type 0
+AreWordsOf words (forms.Start image) = IsStart words image.now
+
+-- the words are those of no form
+abbrev pub AreOfNoForm : List (List ℕ) → Type 0
+AreOfNoForm words = (name : List ℕ) → IsStart words name → ⊥

@@ -2,19 +2,18 @@
 
 ghost use Rattle.std.specs.Prelude.{◌≡◌, ℕ, IfOk, OnErr};
 ghost use Rattle.script_text.specs.Program.{round_robin, turns_of as turns_said};
-ghost use Rattle.script_text.specs.ReportText.{report_of, IsMarked};
+ghost use Rattle.script_text.specs.Text.{IsSection};
+ghost use Rattle.script_text.specs.ReportText.{report_of};
 ghost use Rattle.solo_life.specs.Life.{IsSoloScript, held_rooms as rooms_held};
 ghost use Rattle.solo_life.specs.Phases.{held_in};
 ghost use Rattle.respct.specs.Steps.{IsReportOf};
 
 use line_memory::Memory;
+use room_model::FIRST_EPOCH;
 use script_text::{Mode, Report};
 use seq_object::{Command, Settings};
 use solo_life::{Phase, SoloLife, run};
 use std::alloc::{AllocError, Global};
-
-/// The epoch in which a start begins.
-const FIRST_EPOCH: u32 = 1;
 
 /// Leads the life of a thread with these commands, for so many turns. Where memory runs out before the life is told, `memory` is as it
 /// was.
@@ -25,9 +24,9 @@ pub fn live(
     turns: u32,
     memory: &mut Memory,
 ) -> Result<Report, AllocError>
-    requires { IsSoloScript settings commands.items }
+    requires solo { IsSoloScript settings commands.items }
+    requires section { IsSection commands.items }
     ensures told { IfOk result (λ report. IsReportOf settings commands.items turns (report_of report) memory.new) }
-    ensures marked { IfOk result (λ report. IsMarked (report_of report)) }
     ensures refused { OnErr result (memory.new ≡ memory.old) }
 {
     let mut life = SoloLife::start(alloc, settings, commands)?;

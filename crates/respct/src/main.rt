@@ -3,6 +3,7 @@
 
 mod answer;
 mod living;
+mod reading;
 mod saving;
 mod start;
 mod status;
@@ -10,6 +11,10 @@ mod status;
 mod tests;
 mod top;
 mod words;
+mod writing;
+
+ghost use Rattle.std.specs.Prelude.{◌≡◌, ◌⊎◌, IfErr};
+ghost use Rattle.respct.specs.declared.status.Status.TheVariants.{Usage, OutOfMemory};
 
 use byte_ports::{FileImages, StdinSource, StdoutSink};
 use line_memory::Memory;
@@ -41,7 +46,9 @@ fn main(rt: HostRuntime) -> ExitCode {
 }
 
 // The words of the command line, without the program's name. A word that is no text belongs to no form.
-fn words_of(rt: &HostRuntime) -> Result<Vec<String>, Status> {
+fn words_of(rt: &HostRuntime) -> Result<Vec<String>, Status>
+    ensures { IfErr result (λ status. (status ≡ Usage) ⊎ (status ≡ OutOfMemory)) }
+{
     match env::args(rt) {
         Ok(words) => match words.skip(1).collect::<Vec<String>>(rt.alloc()) {
             Ok(words) => Ok(words),

@@ -1,24 +1,35 @@
 //! A start: reads the script, leads its life over formatted memory, saves the image, and writes the report.
 
-ghost use Rattle.std.specs.Prelude.{◌≡◌, ℕ, [], List, Some, IsTrue};
+ghost use Rattle.std.specs.Prelude.{◌≡◌, ℕ, [], List, Some, IfOk, IfErr};
 ghost use Rattle.byte_ports.specs.Causes.{Rose};
-ghost use Rattle.script_text.specs.ReportText.{report_of, report_bytes, IsMarked};
-ghost use Rattle.respct.specs.Status.{status_of_end};
-ghost use Rattle.respct.specs.Answers.{outside, StartTells, IsComplete, IsUnlessStarved};
-ghost use Rattle.respct.specs.Steps.{Reads, IsReadDecided, Writes};
+ghost use Rattle.respct.specs.Status.{status_of_start};
+ghost use Rattle.respct.specs.Answers.{IsDecided};
+ghost use Rattle.respct.specs.Steps.{ports, HasReported, IsUnreported};
 
 use crate::living::{live, turns_in};
+use crate::reading::{NoScript, read};
 use crate::saving::save;
-use crate::status::Status;
-use byte_ports::{Images, ReadRefusal, Sink, Source, StoreRefusal, read_all, write_all};
+use crate::writing::write;
+use byte_ports::{Images, Sink, Source, StoreRefusal};
+use life_model::Outcome;
 use line_memory::Memory;
-use script_text::{Report, Script, ScriptRefusal, parse, report_text};
+use script_text::Script;
 use std::alloc::Global;
 
-/// The greatest number of bytes that a script may have.
-const SCRIPT_LIMIT: u64 = 8_388_608;
+/// Why a start ends without its report.
+#[derive(Clone, Copy, Debug, PartialEq, Eq)]
+pub enum NoReport {
+    /// There is no script, so that no life began.
+    Unread(NoScript),
+    /// Memory ran out before the life was told. What it left was given up.
+    Untold,
+    /// The image could not be saved.
+    Unsaved(StoreRefusal),
+    /// The report could not be written, or not to its end.
+    Unwritten(StoreRefusal),
+}
 
-/// Reads the script, leads its life over formatted memory, saves the image under this name, and writes the report.
+/// Reads the script, leads its life over formatted memory, saves the image under this name, writes the report, and says how the life ended.
 pub fn start<S: Source, G: Images, W: Sink>(
     alloc: Global,
     source: &mut S,
@@ -26,10 +37,20 @@ pub fn start<S: Source, G: Images, W: Sink>(
     name: &str,
     sink: &mut W,
     memory: &mut Memory,
-) -> Status
+) -> Result<Outcome, NoReport>
     requires { memory.old ≡ [] }
-    ensures tells { StartTells name.now (outside (S.left source.old) (S.count source.old) (W.held sink.old) (W.count sink.old) (G.kept images.old) (G.count images.old)) (outside (S.left source.new) (S.count source.new) (W.held sink.new) (W.count sink.new) (G.kept images.new) (G.count images.new)) memory.new result }
-    ensures complete { IsComplete (outside (S.left source.old) (S.count source.old) (W.held sink.old) (W.count sink.old) (G.kept images.old) (G.count images.old)) (outside (S.left source.new) (S.count source.new) (W.held sink.new) (W.count sink.new) (G.kept images.new) (G.count images.new)) result }
+    ensures reported { IfOk result (HasReported name.now
+        (ports (S.left source.old) (S.count source.old) (W.held sink.old) (W.count sink.old) (G.kept images.old) (G.count images.old))
+        (ports (S.left source.new) (S.count source.new) (W.held sink.new) (W.count sink.new) (G.kept images.new) (G.count images.new))
+        memory.new) }
+    ensures refused { IfErr result (IsUnreported name.now
+        (ports (S.left source.old) (S.count source.old) (W.held sink.old) (W.count sink.old) (G.kept images.old) (G.count images.old))
+        (ports (S.left source.new) (S.count source.new) (W.held sink.new) (W.count sink.new) (G.kept images.new) (G.count images.new))
+        memory.new) }
+    ensures decided { (Rose (S.count source.old) (S.count source.new) → ⊥)
+        → (Rose (G.count images.old) (G.count images.new) → ⊥)
+        → (Rose (W.count sink.old) (W.count sink.new) → ⊥)
+        → (bytes : List ℕ) → S.left source.old ≡ Some bytes → IsDecided bytes (status_of_start result) }
 {
     let Script {
         settings,
@@ -38,50 +59,18 @@ pub fn start<S: Source, G: Images, W: Sink>(
         threads,
     } = match read(alloc, source) {
         Ok(script) => script,
-        Err(status) => return status,
+        Err(refusal) => return Err(NoReport::Unread(refusal)),
     };
     let mut threads = threads;
     let report = match live(alloc, settings, threads.remove(0), turns_in(&mode), memory) {
         Ok(report) => report,
-        Err(_) => return Status::OutOfMemory,
+        Err(_) => return Err(NoReport::Untold),
     };
-    match save(alloc, images, name, memory, &settings, &keep) {
-        Ok(()) => write(alloc, &report, sink),
-        Err(status) => status,
+    if let Err(refusal) = save(alloc, images, name, memory, &settings, &keep) {
+        return Err(NoReport::Unsaved(refusal));
     }
-}
-
-/// Reads the script to the end of the source.
-fn read<S: Source>(alloc: Global, source: &mut S) -> Result<Script, Status>
-    ensures tells { Reads (S.left source.old) (S.left source.new) (S.count source.old) (S.count source.new) result }
-    ensures decided { (Rose (S.count source.old) (S.count source.new) → ⊥) → (bytes : List ℕ) → S.left source.old ≡ Some bytes → IsReadDecided bytes result }
-{
-    let text = match read_all(alloc, source, SCRIPT_LIMIT) {
-        Ok(text) => text,
-        Err(ReadRefusal::Failed) => return Err(Status::ReadFault),
-        Err(ReadRefusal::TooLong) => return Err(Status::TooLong),
-        Err(ReadRefusal::OutOfMemory) => return Err(Status::OutOfMemory),
-    };
-    match parse(alloc, text.as_slice()) {
-        Ok(script) => Ok(script),
-        Err(ScriptRefusal::Fault(fault)) => Err(Status::Script(fault)),
-        Err(ScriptRefusal::OutOfMemory) => Err(Status::OutOfMemory),
-    }
-}
-
-/// Writes the report of a life, and says how the life ended.
-fn write<W: Sink>(alloc: Global, report: &Report, sink: &mut W) -> Status
-    requires { IsMarked (report_of report.now) }
-    ensures tells { Writes (W.held sink.old) (W.held sink.new) (W.count sink.old) (W.count sink.new) (report_bytes (report_of report.now)) report.now.outcome result }
-    ensures complete { (Rose (W.count sink.old) (W.count sink.new) → ⊥) → IsUnlessStarved (status_of_end report.now.outcome) result }
-{
-    let text = match report_text(alloc, report) {
-        Ok(text) => text,
-        Err(_) => return Status::OutOfMemory,
-    };
-    match write_all(sink, text.as_slice()) {
-        Ok(()) => Status::of_end(report.outcome),
-        Err(StoreRefusal::Failed) => Status::WriteFault,
-        Err(StoreRefusal::OutOfMemory) => Status::OutOfMemory,
+    match write(alloc, &report, sink) {
+        Ok(()) => Ok(report.outcome),
+        Err(refusal) => Err(NoReport::Unwritten(refusal)),
     }
 }

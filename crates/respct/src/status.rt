@@ -1,8 +1,11 @@
 //! How a call of the program ends, and the code and the text that tell it.
 
-ghost use Rattle.std.specs.Prelude.{◌≡◌};
-ghost use Rattle.respct.specs.Status.{code_of, status_of_end};
+ghost use Rattle.std.specs.Prelude.{◌≡◌, ◌↔◌, IsTrue};
+ghost use Rattle.respct.specs.Status.{code_of, status_of_end, status_of_refusal, status_of_start, IsRefusal};
 
+use crate::reading::NoScript;
+use crate::start::NoReport;
+use byte_ports::StoreRefusal;
 use life_model::Outcome;
 use script_text::{ScriptFault, kind_name};
 use std::fmt;
@@ -35,8 +38,18 @@ pub enum Status {
 }
 
 impl Status {
+    /// The status of a start.
+    pub fn of_start(ended: Result<Outcome, NoReport>) -> Status
+        ensures { result ≡ status_of_start ended }
+    {
+        match ended {
+            Ok(outcome) => Status::of_end(outcome),
+            Err(refusal) => Status::of_refusal(refusal),
+        }
+    }
+
     /// The status of a life that ended so.
-    pub fn of_end(outcome: Outcome) -> Status
+    fn of_end(outcome: Outcome) -> Status
         ensures { result ≡ status_of_end outcome }
     {
         match outcome {
@@ -44,6 +57,23 @@ impl Status {
             Outcome::Stalled => Status::Stalled,
             Outcome::Cut => Status::Cut,
             Outcome::Starved => Status::OutOfMemory,
+        }
+    }
+
+    /// The status of a start without its report.
+    fn of_refusal(refusal: NoReport) -> Status
+        ensures { result ≡ status_of_refusal refusal }
+    {
+        match refusal {
+            NoReport::Unread(NoScript::Failed) => Status::ReadFault,
+            NoReport::Unread(NoScript::TooLong) => Status::TooLong,
+            NoReport::Unread(NoScript::Fault(fault)) => Status::Script(fault),
+            NoReport::Unsaved(StoreRefusal::Failed) => Status::StoreFault,
+            NoReport::Unwritten(StoreRefusal::Failed) => Status::WriteFault,
+            NoReport::Unread(NoScript::OutOfMemory)
+            | NoReport::Untold
+            | NoReport::Unsaved(StoreRefusal::OutOfMemory)
+            | NoReport::Unwritten(StoreRefusal::OutOfMemory) => Status::OutOfMemory,
         }
     }
 
@@ -67,12 +97,19 @@ impl Status {
     }
 
     /// Whether the program says on standard error why it was refused.
-    pub fn is_refusal(&self) -> bool {
+    pub fn is_refusal(&self) -> bool
+        ensures { IsTrue result ↔ IsRefusal self.now }
+    {
         !matches!(self, Status::Finished | Status::Stalled | Status::Cut)
     }
 }
 
 impl fmt::Display for Status {
+    ghost use Rattle.std.specs.Prelude.{Some};
+    ghost use Rattle.respct.specs.Status.{status_text};
+
+    ghost output = { λ status. Some (status_text status) };
+
     /// The line for standard error, without its end.
     fn fmt<W: fmt::Write>(&self, f: &mut fmt::Formatter<W>) -> fmt::Result {
         match self {

@@ -54,12 +54,15 @@ fn words_in(alloc: Global, words: &str) -> Result<Vec<String>, AllocError> {
     Ok(list)
 }
 
+/// The name of an image where the words give none.
+const DEFAULT_NAME: &str = "respct.image";
+
 /// What a run answered and left.
 #[derive(Drop)]
 struct Left {
     status: Status,
     report: Vec<u8>,
-    /// The bytes under `respct.image`, and none where there is no such name.
+    /// The bytes under the name that was asked for, and none where there is no such name.
     image: Vec<u8>,
 }
 
@@ -80,6 +83,17 @@ const NO_FAILS: Fails = Fails {
 
 /// The answer to these words over this text, where these calls fail.
 fn answer(rt: HostRuntime, words: &str, text: Vec<u8>, fails: Fails) -> Result<Left, AllocError> {
+    answer_with(rt, words, text, fails, DEFAULT_NAME)
+}
+
+/// The same, with the image that is under this name.
+fn answer_with(
+    rt: HostRuntime,
+    words: &str,
+    text: Vec<u8>,
+    fails: Fails,
+    name: &str,
+) -> Result<Left, AllocError> {
     let words = words_in(rt.alloc(), words)?;
     let mut source = MemorySource::new(text, Vec::from_slice(rt.alloc(), fails.reads)?);
     let mut images = MemoryImages::new(rt.alloc(), Vec::from_slice(rt.alloc(), fails.saves)?);
@@ -96,7 +110,7 @@ fn answer(rt: HostRuntime, words: &str, text: Vec<u8>, fails: Fails) -> Result<L
     Ok(Left {
         status,
         report: Vec::from_slice(rt.alloc(), sink.bytes())?,
-        image: Vec::from_slice(rt.alloc(), images.get("respct.image").unwrap_or(&[]))?,
+        image: Vec::from_slice(rt.alloc(), images.get(name).unwrap_or(&[]))?,
     })
 }
 
@@ -122,6 +136,13 @@ fn lives_of_one_put(rt: HostRuntime) -> Result<(), Fail> {
             "none",
             Status::Finished,
             "entry 0 0 put 5 7 = new\nsaved 2\nflushed 5\nend finished\n",
+        ),
+        (
+            "put 18446744073709551615 1\n",
+            49,
+            "none",
+            Status::Finished,
+            "entry 0 0 put 18446744073709551615 1 = new\nsaved 2\nflushed 5\nend finished\n",
         ),
         (
             "put 5 7\n",
@@ -290,21 +311,24 @@ fn line_of(image: &[u8], line: u32) -> [u64; 8] {
     words
 }
 
+/// Lines of the images of one command: the super room's line 33, the map's header 0 and its first node 9.
 #[test]
-fn images_of_one_put(rt: HostRuntime) -> Result<(), Fail> {
-    for (turns, keep, line, words) in [
-        (45, "none", 33, [1, 0, 0, 0, 0, 0, 0, 0]),
-        (45, "all", 33, [2, 0, 0, 0, 0, 0, 0, 0]),
-        (49, "none", 33, [2, 0, 0, 0, 0, 0, 0, 0]),
-        (49, "none", 9, [5, 7, 0, 0, 0, 0, 1, 0]),
-        (6, "all", 0, [0, 9, 0, 0, 9, 0, 1, 0]),
-        (6, "list 0:3", 0, [0, 9, 0, 0, 9, 0, 0, 0]),
-        (6, "none", 0, [0, 9, 0, 0, 0, 0, 0, 0]),
+fn images_of_one_command(rt: HostRuntime) -> Result<(), Fail> {
+    for (commands, turns, keep, line, words) in [
+        ("", 0, "none", 33, [1, 0, 0, 0, 0, 0, 0, 0]),
+        ("put 5 7\n", 45, "none", 33, [1, 0, 0, 0, 0, 0, 0, 0]),
+        ("put 5 7\n", 45, "all", 33, [2, 0, 0, 0, 0, 0, 0, 0]),
+        ("put 5 7\n", 49, "none", 33, [2, 0, 0, 0, 0, 0, 0, 0]),
+        ("put 5 7\n", 49, "none", 9, [5, 7, 0, 0, 0, 0, 1, 0]),
+        ("put 5 7\n", 6, "all", 0, [0, 9, 0, 0, 9, 0, 1, 0]),
+        ("put 5 7\n", 6, "list 0:3", 0, [0, 9, 0, 0, 9, 0, 0, 0]),
+        ("put 5 7\n", 6, "none", 0, [0, 9, 0, 0, 0, 0, 0, 0]),
     ] {
         let script = Script {
+            every: 1,
             turns,
             keep,
-            ..ONE_PUT
+            commands,
         };
         let left = led(rt, script)?;
         assert_eq!(rt; left.image.len(), 2200);
@@ -386,22 +410,23 @@ fn images_of_lines_given_back(rt: HostRuntime) -> Result<(), Fail> {
     Ok(())
 }
 
-#[test]
-fn the_head_of_an_image(rt: HostRuntime) -> Result<(), Fail> {
-    let left = led(rt, ONE_PUT)?;
-    let head = [
-        0x52, 0x45, 0x53, 0x50, 0x43, 0x54, 0x49, 0x4d, 1, 0, 0, 0, 1, 0, 0, 0, 1, 0, 0, 0, 16, 0,
-        0, 0,
-    ];
-    assert_eq!(rt; left.image.get(..24), Some(head.as_slice()));
-    Ok(())
-}
+/// The first bytes of an image of one thread, one shard and rooms of 16 lines.
+const HEAD: [u8; 24] = [
+    0x52, 0x45, 0x53, 0x50, 0x43, 0x54, 0x49, 0x4d, 1, 0, 0, 0, 1, 0, 0, 0, 1, 0, 0, 0, 16, 0, 0, 0,
+];
 
 #[test]
-fn an_image_under_another_name(rt: HostRuntime) -> Result<(), Fail> {
-    for words in ["start --image other", "start --image=other"] {
-        let left = answer(rt, words, ONE_PUT.text(rt.alloc())?, NO_FAILS)?;
+fn images_by_their_names(rt: HostRuntime) -> Result<(), Fail> {
+    for (words, name, other) in [
+        ("start", DEFAULT_NAME, "other"),
+        ("start --image other", "other", DEFAULT_NAME),
+        ("start --image=other", "other", DEFAULT_NAME),
+    ] {
+        let left = answer_with(rt, words, ONE_PUT.text(rt.alloc())?, NO_FAILS, name)?;
         assert_eq!(rt; left.status, Status::Finished, "at {words:?}");
+        assert_eq!(rt; left.image.len(), 2200, "at {words:?}");
+        assert_eq!(rt; left.image.get(..24), Some(HEAD.as_slice()), "at {words:?}");
+        let left = answer_with(rt, words, ONE_PUT.text(rt.alloc())?, NO_FAILS, other)?;
         assert_eq!(rt; left.image.len(), 0, "at {words:?}");
     }
     Ok(())
@@ -514,7 +539,9 @@ fn an_image_in_a_file(rt: HostRuntime) -> Result<(), Fail> {
     assert_eq!(rt; saved_at(rt, &path)?, Status::Finished);
     let file = FileImages::new(rt).load(rt.alloc(), &path)?;
     fs::remove_file(&rt, &path)?;
-    assert_eq!(rt; file.map_or(0, |bytes| bytes.len()), 2200);
+    let bytes = file.unwrap_or(Vec::new(rt.alloc()));
+    assert_eq!(rt; bytes.len(), 2200);
+    assert_eq!(rt; bytes.get(..24), Some(HEAD.as_slice()));
     Ok(())
 }
 

@@ -1,16 +1,26 @@
 //! The top call: the words, the script, the life, and the report.
 
-ghost use Rattle.std.specs.Prelude.{◌≡◌, ℕ, List, [], map};
+ghost use Rattle.std.specs.Prelude.{◌≡◌, ◌≢◌, ◌⊎◌, ◌↔◌, ℕ, List, [], map, Some};
 ghost use Rattle.std.specs.String.{string_bytes};
-ghost use Rattle.respct.specs.Words.{IsStart};
-ghost use Rattle.respct.specs.Answers.{outside, Tells, IsComplete, status_of};
+ghost use Rattle.byte_ports.specs.Bytes.{TookSome, Appended, AppendedSome};
+ghost use Rattle.byte_ports.specs.Causes.{Rose};
+ghost use Rattle.byte_ports.specs.Images.{OthersSame};
+ghost use Rattle.life_model.specs.declared.life.Outcome.TheVariants as ends;
+ghost use Rattle.script_text.specs.ReportText.{report_bytes};
+ghost use Rattle.respct.specs.declared.status.Status.TheVariants.{Finished, Usage, Script, Stalled, Cut, ReadFault, WriteFault};
+ghost use Rattle.respct.specs.declared.status.Status.TheVariants.{StoreFault, NoImage, OutOfMemory, TooLong};
+ghost use Rattle.respct.specs.declared.answer.PlainAnswer.TheVariants.{Ended};
+ghost use Rattle.respct.specs.Words.{IsStart, AreOfNoForm};
+ghost use Rattle.respct.specs.Run.{Led, IsLed, HasSaved};
+ghost use Rattle.respct.specs.Answers.{IsUntouched, IsNoScript, TookTooMuch, IsDecided, status_in};
 
 use crate::answer::PlainAnswer;
 use crate::start::start;
 use crate::status::Status;
-use crate::words::image_name;
+use crate::words::{Form, form_of};
 use byte_ports::{Images, Sink, Source};
 use line_memory::Memory;
+use script_text::ScriptFault;
 use std::alloc::Global;
 
 /// The program: does what the words say, and answers how it ended.
@@ -27,10 +37,68 @@ pub fn respct<R: AllocGlobal, S: Source, G: Images, W: Sink>(
     memory: &mut Memory,
 ) -> Status
     requires { memory.old ≡ [] }
-    // The cause of the status, and what is left.
-    ensures tells { Tells (map string_bytes words.now) (outside (S.left script.old) (S.count script.old) (W.held report.old) (W.count report.old) (G.kept images.old) (G.count images.old)) (outside (S.left script.new) (S.count script.new) (W.held report.new) (W.count report.new) (G.kept images.new) (G.count images.new)) memory.new result }
-    // Which status it is where nothing outside fails.
-    ensures complete { (name : List ℕ) → IsStart (map string_bytes words.now) name → IsComplete (outside (S.left script.old) (S.count script.old) (W.held report.old) (W.count report.old) (G.kept images.old) (G.count images.old)) (outside (S.left script.new) (S.count script.new) (W.held report.new) (W.count report.new) (G.kept images.new) (G.count images.new)) result }
+
+    // 0: a life was led to its end, its image is saved, and its whole report was appended.
+    ensures finished { result ≡ Finished → (led : Led) × IsStart (map string_bytes words.now) led.name
+        × IsLed (S.left script.old) (S.left script.new) memory.new led
+        × HasSaved (G.kept images.old) (G.kept images.new) memory.new led
+        × Appended (W.held report.old) (W.held report.new) (report_bytes led.report) × (led.report.outcome ≡ ends.Finished) }
+
+    // 4: the same of a life whose power was cut before its end.
+    ensures cut { result ≡ Cut → (led : Led) × IsStart (map string_bytes words.now) led.name
+        × IsLed (S.left script.old) (S.left script.new) memory.new led
+        × HasSaved (G.kept images.old) (G.kept images.new) memory.new led
+        × Appended (W.held report.old) (W.held report.new) (report_bytes led.report) × (led.report.outcome ≡ ends.Cut) }
+
+    // 1: exactly where the words are of no form. Nothing was read, and nothing else was done.
+    ensures usage { (result ≡ Usage) ↔ AreOfNoForm (map string_bytes words.now) }
+    ensures unasked { result ≡ Usage → (S.left script.new ≡ S.left script.old)
+        × IsUntouched (W.held report.old) (W.held report.new) (G.kept images.old) (G.kept images.new) memory.new }
+
+    // 2: the source had bytes that are no text of a script, and all of them were read. Nothing else was done.
+    ensures script { (f : ScriptFault) → result ≡ Script f → IsNoScript (S.left script.old) (S.left script.new) f
+        × IsUntouched (W.held report.old) (W.held report.new) (G.kept images.old) (G.kept images.new) memory.new }
+
+    // 7: the source failed, some of its bytes were taken, and nothing else was done.
+    ensures unread { result ≡ ReadFault → Rose (S.count script.old) (S.count script.new) × TookSome (S.left script.old) (S.left script.new)
+        × IsUntouched (W.held report.old) (W.held report.new) (G.kept images.old) (G.kept images.new) memory.new }
+
+    // 12: more bytes than a script may have were taken, and nothing else was done.
+    ensures too_long { result ≡ TooLong → TookTooMuch (S.left script.old) (S.left script.new) × TookSome (S.left script.old) (S.left script.new)
+        × IsUntouched (W.held report.old) (W.held report.new) (G.kept images.old) (G.kept images.new) memory.new }
+
+    // 9: the image store failed after a life was led. What is under the image's name is open, and nothing was written.
+    ensures unsaved { result ≡ StoreFault → Rose (G.count images.old) (G.count images.new)
+        × (led : Led) × IsStart (map string_bytes words.now) led.name
+        × IsLed (S.left script.old) (S.left script.new) memory.new led
+        × OthersSame (G.kept images.old) (G.kept images.new) led.name × (W.held report.new ≡ W.held report.old) }
+
+    // 8: the sink failed after a life was led and its image saved. A first part of its report was appended.
+    ensures unwritten { result ≡ WriteFault → Rose (W.count report.old) (W.count report.new)
+        × (led : Led) × IsStart (map string_bytes words.now) led.name
+        × IsLed (S.left script.old) (S.left script.new) memory.new led
+        × HasSaved (G.kept images.old) (G.kept images.new) memory.new led
+        × AppendedSome (W.held report.old) (W.held report.new) (report_bytes led.report) }
+
+    // 11: memory ran out. No life is told and nothing was done but that some bytes were taken; or a life was led, what is under its image's
+    // name is open, and a first part of its report was appended.
+    ensures starved { result ≡ OutOfMemory
+        → (TookSome (S.left script.old) (S.left script.new)
+        × IsUntouched (W.held report.old) (W.held report.new) (G.kept images.old) (G.kept images.new) memory.new)
+        ⊎ ((led : Led) × IsStart (map string_bytes words.now) led.name
+        × IsLed (S.left script.old) (S.left script.new) memory.new led
+        × OthersSame (G.kept images.old) (G.kept images.new) led.name
+        × AppendedSome (W.held report.old) (W.held report.new) (report_bytes led.report)) }
+
+    // 3 and 10 do not come: no form that is built leads to them.
+    ensures unbuilt { (result ≢ Stalled) × (result ≢ NoImage) }
+
+    // Where nothing outside fails, the source's bytes decide on the status of a start.
+    ensures complete { (name : List ℕ) → IsStart (map string_bytes words.now) name
+        → (Rose (S.count script.old) (S.count script.new) → ⊥)
+        → (Rose (G.count images.old) (G.count images.new) → ⊥)
+        → (Rose (W.count report.old) (W.count report.new) → ⊥)
+        → (bytes : List ℕ) → S.left script.old ≡ Some bytes → IsDecided bytes result }
 {
     match respct_plain(rt.alloc(), words, script, images, report, memory) {
         PlainAnswer::Ended(status) => status,
@@ -47,11 +115,74 @@ pub fn respct_plain<S: Source, G: Images, W: Sink>(
     memory: &mut Memory,
 ) -> PlainAnswer
     requires { memory.old ≡ [] }
-    ensures tells { Tells (map string_bytes words.now) (outside (S.left script.old) (S.count script.old) (W.held report.old) (W.count report.old) (G.kept images.old) (G.count images.old)) (outside (S.left script.new) (S.count script.new) (W.held report.new) (W.count report.new) (G.kept images.new) (G.count images.new)) memory.new (status_of result) }
-    ensures complete { (name : List ℕ) → IsStart (map string_bytes words.now) name → IsComplete (outside (S.left script.old) (S.count script.old) (W.held report.old) (W.count report.old) (G.kept images.old) (G.count images.old)) (outside (S.left script.new) (S.count script.new) (W.held report.new) (W.count report.new) (G.kept images.new) (G.count images.new)) (status_of result) }
+
+    // 0: a life was led to its end, its image is saved, and its whole report was appended.
+    ensures finished { result ≡ Ended Finished → (led : Led) × IsStart (map string_bytes words.now) led.name
+        × IsLed (S.left script.old) (S.left script.new) memory.new led
+        × HasSaved (G.kept images.old) (G.kept images.new) memory.new led
+        × Appended (W.held report.old) (W.held report.new) (report_bytes led.report) × (led.report.outcome ≡ ends.Finished) }
+
+    // 4: the same of a life whose power was cut before its end.
+    ensures cut { result ≡ Ended Cut → (led : Led) × IsStart (map string_bytes words.now) led.name
+        × IsLed (S.left script.old) (S.left script.new) memory.new led
+        × HasSaved (G.kept images.old) (G.kept images.new) memory.new led
+        × Appended (W.held report.old) (W.held report.new) (report_bytes led.report) × (led.report.outcome ≡ ends.Cut) }
+
+    // 1: exactly where the words are of no form. Nothing was read, and nothing else was done.
+    ensures usage { (result ≡ Ended Usage) ↔ AreOfNoForm (map string_bytes words.now) }
+    ensures unasked { result ≡ Ended Usage → (S.left script.new ≡ S.left script.old)
+        × IsUntouched (W.held report.old) (W.held report.new) (G.kept images.old) (G.kept images.new) memory.new }
+
+    // 2: the source had bytes that are no text of a script, and all of them were read. Nothing else was done.
+    ensures script { (f : ScriptFault) → result ≡ Ended (Script f) → IsNoScript (S.left script.old) (S.left script.new) f
+        × IsUntouched (W.held report.old) (W.held report.new) (G.kept images.old) (G.kept images.new) memory.new }
+
+    // 7: the source failed, some of its bytes were taken, and nothing else was done.
+    ensures unread { result ≡ Ended ReadFault → Rose (S.count script.old) (S.count script.new) × TookSome (S.left script.old) (S.left script.new)
+        × IsUntouched (W.held report.old) (W.held report.new) (G.kept images.old) (G.kept images.new) memory.new }
+
+    // 12: more bytes than a script may have were taken, and nothing else was done.
+    ensures too_long { result ≡ Ended TooLong → TookTooMuch (S.left script.old) (S.left script.new) × TookSome (S.left script.old) (S.left script.new)
+        × IsUntouched (W.held report.old) (W.held report.new) (G.kept images.old) (G.kept images.new) memory.new }
+
+    // 9: the image store failed after a life was led. What is under the image's name is open, and nothing was written.
+    ensures unsaved { result ≡ Ended StoreFault → Rose (G.count images.old) (G.count images.new)
+        × (led : Led) × IsStart (map string_bytes words.now) led.name
+        × IsLed (S.left script.old) (S.left script.new) memory.new led
+        × OthersSame (G.kept images.old) (G.kept images.new) led.name × (W.held report.new ≡ W.held report.old) }
+
+    // 8: the sink failed after a life was led and its image saved. A first part of its report was appended.
+    ensures unwritten { result ≡ Ended WriteFault → Rose (W.count report.old) (W.count report.new)
+        × (led : Led) × IsStart (map string_bytes words.now) led.name
+        × IsLed (S.left script.old) (S.left script.new) memory.new led
+        × HasSaved (G.kept images.old) (G.kept images.new) memory.new led
+        × AppendedSome (W.held report.old) (W.held report.new) (report_bytes led.report) }
+
+    // 11: memory ran out. No life is told and nothing was done but that some bytes were taken; or a life was led, what is under its image's
+    // name is open, and a first part of its report was appended.
+    ensures starved { result ≡ Ended OutOfMemory
+        → (TookSome (S.left script.old) (S.left script.new)
+        × IsUntouched (W.held report.old) (W.held report.new) (G.kept images.old) (G.kept images.new) memory.new)
+        ⊎ ((led : Led) × IsStart (map string_bytes words.now) led.name
+        × IsLed (S.left script.old) (S.left script.new) memory.new led
+        × OthersSame (G.kept images.old) (G.kept images.new) led.name
+        × AppendedSome (W.held report.old) (W.held report.new) (report_bytes led.report)) }
+
+    // 3 and 10 do not come: no form that is built leads to them.
+    ensures unbuilt { (result ≢ Ended Stalled) × (result ≢ Ended NoImage) }
+
+    // Where nothing outside fails, the source's bytes decide on the status of a start.
+    ensures complete { (name : List ℕ) → IsStart (map string_bytes words.now) name
+        → (Rose (S.count script.old) (S.count script.new) → ⊥)
+        → (Rose (G.count images.old) (G.count images.new) → ⊥)
+        → (Rose (W.count report.old) (W.count report.new) → ⊥)
+        → (bytes : List ℕ) → S.left script.old ≡ Some bytes → IsDecided bytes (status_in result) }
 {
-    match image_name(words) {
-        Some(name) => PlainAnswer::Ended(start(alloc, script, images, name, report, memory)),
+    match form_of(words) {
+        Some(Form::Start { image }) => {
+            let ended = start(alloc, script, images, image, report, memory);
+            PlainAnswer::Ended(Status::of_start(ended))
+        }
         None => PlainAnswer::Ended(Status::Usage),
     }
 }

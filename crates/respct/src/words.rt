@@ -1,8 +1,8 @@
-//! The words after the program's name.
+//! The words after the program's name, and the forms in which they stand.
 
-ghost use Rattle.std.specs.Prelude.{◌≡◌, ℕ, List, ◌∷◌, map, codes, MatchOption};
+ghost use Rattle.std.specs.Prelude.{◌≡◌, ℕ, List, map, MatchOption};
 ghost use Rattle.std.specs.String.{string_bytes};
-ghost use Rattle.respct.specs.Words.{IsName, IsStart, IsNoStart};
+ghost use Rattle.respct.specs.Words.{IsName, AreNaming, AreWordsOf, AreOfNoForm};
 
 /// The name of an image where none is given.
 const DEFAULT_IMAGE: &str = "respct.image";
@@ -13,21 +13,30 @@ const OPTION: &str = "--image";
 /// The option that gives a name behind it, in the same word.
 const OPTION_WITH_NAME: &str = "--image=";
 
-/// The name of the image of a start, where these are the words of one.
-pub fn image_name(words: &[String]) -> Option<&str>
-    ensures { MatchOption result (IsNoStart (map string_bytes words.now)) (λ name. IsStart (map string_bytes words.now) name.now) }
+/// What the words ask for.
+#[derive(Clone, Copy, Debug, PartialEq, Eq)]
+pub enum Form<'a> {
+    /// A life over formatted memory, whose image is kept under this name.
+    Start { image: &'a str },
+}
+
+/// The form that the words have.
+pub fn form_of(words: &[String]) -> Option<Form<'_>>
+    ensures { MatchOption result (AreOfNoForm (map string_bytes words.now)) (AreWordsOf (map string_bytes words.now)) }
 {
-    let (start, options) = words.split_first()?;
-    if start.as_str() == "start" {
-        name_behind(options)
+    let (word, options) = words.split_first()?;
+    if word.as_str() == "start" {
+        let image = image_name(options)?;
+        Some(Form::Start { image })
     } else {
         None
     }
 }
 
-/// The name that the words behind `start` give.
-fn name_behind(options: &[String]) -> Option<&str>
-    ensures { MatchOption result (IsNoStart (codes "start" ∷ map string_bytes options.now)) (λ name. IsStart (codes "start" ∷ map string_bytes options.now) name.now) }
+/// The name of an image that the words behind a form's word give.
+fn image_name(options: &[String]) -> Option<&str>
+    ensures { MatchOption result ((name : List ℕ) → AreNaming (map string_bytes options.now) name → ⊥)
+        (λ name. AreNaming (map string_bytes options.now) name.now) }
 {
     match options {
         [] => Some(DEFAULT_IMAGE),

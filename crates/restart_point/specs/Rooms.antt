@@ -4,8 +4,9 @@ use Rattle.line_memory.specs.Line.{LineState, line_at, bank_load, bank_with_spar
 use Rattle.room_model.specs.declared.write.PlannedStore.{PlannedStore}
 use Rattle.room_model.specs.Chains.{RoomWords}
 use Rattle.room_model.specs.Writes.{stored_in, write, write_stores}
-use Rattle.incll_var.specs.Plans.{PlanState, IsPlanned, HasRoomFor, filled, plan_behind}
-use Rattle.incll_var.specs.Cells.{CellBankState, IsCellBank, IsRunning, epoch_of, room_of, played}
+use Rattle.incll_var.specs.Plans.{PlanState, IsPlanned, HasPlacesFor, filled, plan_behind}
+use Rattle.incll_var.specs.Cells.{CellBankState, IsCellBank, IsRunning, epoch_of, places_of, played}
+use Rattle.planned_cells.specs.Planned.{planned_words}
 use Rattle.restart_point.specs.declared.thread_end.ThreadEnd.{ThreadEnd}
 
 -- a thread's room: its cells, the stores that are left of a write, and its end
@@ -29,6 +30,10 @@ room_behind room = stored_in (bank_load room.cells.bank) room.plan.stores
 -- the position behind all stores that are left; where none is left, this is the one by load
 abbrev pub position_behind : ThreadRoomState → ℕ
 position_behind room = room_behind room 0 0
+
+-- the words that the room means: behind the stores that are left; of a torn cell, what its restore brings back
+abbrev pub words_of : ThreadRoomState → RoomWords
+words_of room = planned_words room.cells room.plan
 
 -- no store is left of a write
 abbrev pub IsIdle : ThreadRoomState → Type 0
@@ -65,7 +70,7 @@ with_line_spare cells spare = record cells { bank = bank_with_spare cells.bank 0
 pub record IsUnderWay (cells : CellBankState) (stores : List PlannedStore) : Type 0 where
   pub running : IsRunning cells.state
   pub planned : IsPlanned (epoch_of cells.state) cells.bank.lines stores
-  pub room : HasRoomFor cells.bank.lines stores
+  pub room : HasPlacesFor cells.bank.lines stores
 
 -- a thread's room: one cell; stores that are left can be made; the plan and the line have room for five stores in all
 pub record IsThreadRoom (room : ThreadRoomState) : Type 0 where
@@ -73,4 +78,4 @@ pub record IsThreadRoom (room : ThreadRoomState) : Type 0 where
   pub one : length room.cells.bank.lines ≡ 1
   pub under_way : 0 < length room.plan.stores → IsUnderWay room.cells room.plan.stores
   pub plan_room : 5 ≤ length room.plan.stores + room.plan.spare
-  pub line_room : 5 ≤ room_of (line_in room)
+  pub line_room : 5 ≤ places_of (line_in room)

@@ -1,6 +1,6 @@
 //! Laws on the arrival word and on thread rooms, each the contract of a function that does nothing.
 
-ghost use Rattle.restart_point.specs.Laws.{SaidLaw, MadeLaw, NoOtherBitsLaw, ThreadKeptLaw, ThreadSavedLaw};
+ghost use Rattle.restart_point.specs.Laws.{SaidLaw, MadeLaw, NoOtherBitsLaw, ThreadKeptLaw, ThreadSavedLaw, UnwrittenLaw};
 
 /// A word and what it says fix each other, where bits 19 to 31 are 0.
 pub fn arrival_laws()
@@ -10,8 +10,9 @@ pub fn arrival_laws()
 {}
 
 /// Whatever a cut keeps of a thread's room, it leaves what memory holds of it; of a room that was saved, each later epoch
-/// has what loads give.
+/// has what loads give, and in a later epoch that is entered the position may be written.
 pub fn thread_laws()
     ensures kept { ThreadKeptLaw }
     ensures saved { ThreadSavedLaw }
+    ensures unwritten { UnwrittenLaw }
 {}

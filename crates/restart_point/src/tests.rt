@@ -1,12 +1,14 @@
 //! Rooms driven on by hand, and words with their bits. The helpers look first whether a call may be made.
 
 ghost use Rattle.std.specs.Prelude.{◌≡◌, ◌<◌, length, IfOk};
-ghost use Rattle.incll_var.specs.Cells.{AreSettled, IsSaved, IsTorn, epoch_of};
-ghost use Rattle.restart_point.specs.Rooms.{IsThreadRoom, IsIdle};
+ghost use Rattle.incll_var.specs.Cells.{AreSettled, IsSaved, IsTorn, MayEnter, epoch_of, with_state};
+ghost use Rattle.restart_point.specs.Rooms.{IsThreadRoom, IsIdle, IsUnwritten, with_cells};
 
 use crate::{Arrival, ThreadEnd, ThreadRoom};
-use incll_var::{CellBank, RestoreStep};
+use incll_var::{CellBank, CellState, RestoreStep};
 use line_memory::Bank;
+use planned_cells::CellRoom;
+use room_model::TAG;
 use std::alloc::{AllocError, Global};
 use std::process::Abort;
 use std::test::Fail;
@@ -20,7 +22,7 @@ fn bank_of(rt: &impl Abort, alloc: Global, words: [u64; 8], epoch: u32) -> Resul
     base.push(words)?;
     let bank = Bank::of(alloc, base)?;
     assert!(rt; bank.lines() == 1);
-    assert!(rt; bank.pending(0) == 0 && bank.base(0)[6] <= u64::from(epoch));
+    assert!(rt; bank.pending(0) == 0 && bank.base(0)[TAG as usize] <= u64::from(epoch));
     Ok(bank)
 }
 
@@ -35,7 +37,11 @@ fn saved_room(
     ensures epoch { IfOk result (λ room. epoch_of room.cells.state ≡ epoch) }
 {
     let bank = bank_of(rt, alloc, words, epoch)?;
-    ThreadRoom::of(alloc, CellBank::clean(alloc, bank, epoch), ThreadEnd::Waits)
+    ThreadRoom::of(
+        alloc,
+        CellBank::clean(alloc, bank, epoch)?,
+        ThreadEnd::Waits,
+    )
 }
 
 #[test]
@@ -56,6 +62,17 @@ fn words_of_arrivals(rt: HostRuntime) -> Result<(), Fail> {
     Ok(())
 }
 
+/// Enters the epoch behind those that are saved: the position is not yet written in it.
+fn enter(room: &mut ThreadRoom, epoch: u32)
+    requires saved { IsSaved room.old.cells.state }
+    requires may { MayEnter room.old.cells.state epoch }
+    ensures is { room.new ≡ with_cells room.old (with_state room.old.cells (CellState.Running epoch)) }
+    ensures unwritten { IsUnwritten room.new }
+{
+    let _position = room.position();
+    room.enter(epoch);
+}
+
 #[test]
 fn a_position_is_written(rt: HostRuntime) -> Result<(), Fail> {
     let words = [3, 0, 0, 0, 0, 0, 2, 0];
@@ -63,7 +80,7 @@ fn a_position_is_written(rt: HostRuntime) -> Result<(), Fail> {
     assert!(rt; room.position() == 3 && room.end() == ThreadEnd::Waits);
     room.set_end(ThreadEnd::Ready);
     assert!(rt; room.end() == ThreadEnd::Ready);
-    room.enter(3);
+    enter(&mut room, 3);
     room.begin(8, ThreadEnd::Ended);
     assert!(rt; room.left() == 5 && room.position() == 3);
     assert!(rt; room.step());
@@ -77,7 +94,7 @@ fn a_position_is_written(rt: HostRuntime) -> Result<(), Fail> {
     assert!(rt; !room.close_next());
     room.close_fence();
     assert_eq!(rt; room.position(), 8);
-    let bank = room.into_cells().into_bank();
+    let bank = room.into_bank();
     assert!(rt; bank.lines() == 1);
     assert_eq!(rt; bank.base(0), [8, 0, 0, 3, 0, 0, 3, 0]);
     Ok(())

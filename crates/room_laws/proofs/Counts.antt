@@ -3,15 +3,15 @@ use Rattle.std.proofs.Common.{◌≡◌, ℕ, ◌+◌, ◌-◌, ◌≤◌, ◌==
 use Rattle.std.proofs.lemmas.Bool.Decides.{eqb_tells}
 use Rattle.seq_object.specs.declared.command.Command.{Command}
 use Rattle.seq_object.specs.declared.command.Command.TheVariants.{Put, Get, Del, Enq, Deq, Take}
-use Rattle.seq_object.specs.Sizes.{Sizes}
 use Rattle.seq_object.specs.Object.{room_of}
 use Rattle.room_model.specs.declared.write.Write.{Write}
 use Rattle.room_model.specs.declared.write.PlannedStore.{PlannedStore}
 use Rattle.room_model.specs.Chains.{RoomWords}
-use Rattle.room_model.specs.MapRoom.{MapLayout, bucket_of}
+use Rattle.room_model.specs.MapRoom.{Layout, bucket_of}
 use Rattle.room_model.specs.Writes.{write, writes_of, store, touches, write_stores, stores_behind, taken_line, is_full, take_write, give_writes, node_of, node_before, put_absent, put_present, put_writes, unlink_write, del_present, del_writes, enq_room, enq_writes, deq_item, deq_writes}
 use Rattle.room_laws.specs.Stores.{most_stores, StoreCountsLaw}
 use Rattle.room_laws.proofs.Tests.{by_test, by_Bool}
+use Rattle.seq_object.specs.declared.sizes.Sizes.{Sizes}
 
 -- whether a line is one of these
 abbrev is_in : ℕ → List ℕ → Bool
@@ -146,15 +146,15 @@ take_line : (r : RoomWords) → (take_write r).line ≡ 0
 take_line r = by_Bool (λ b. (if b then write 0 1 (r 0 1 + 1) else write 0 0 (r (r 0 0) 0)).line ≡ 0) (r 0 0 == 0) (λ _. refl) (λ _. refl)
 
 -- the costs of the writes of each command
-put_writes_cost : (layout : MapLayout) (z : Sizes) (r : RoomWords) (key value : ℕ) → cost [] (lines_of (put_writes layout z r key value)) ≤ 18
+put_writes_cost : (layout : Layout) (z : Sizes) (r : RoomWords) (key value : ℕ) → cost [] (lines_of (put_writes layout z r key value)) ≤ 18
 put_writes_cost layout z r key value =
-    by_test (λ b. cost [] (lines_of (if b then (if is_full z r then [] else put_absent layout z r key value) else put_present (node_of layout z r key) value)) ≤ 18) (node_of layout z r key) 0
-    (λ _. by_Bool (λ b. cost [] (lines_of (if b then [] else put_absent layout z r key value)) ≤ 18) (is_full z r) (λ _. omega arith)
+    by_test (λ b. cost [] (lines_of (if b then (if is_full z.lines r then [] else put_absent layout z r key value) else put_present (node_of layout z r key) value)) ≤ 18) (node_of layout z r key) 0
+    (λ _. by_Bool (λ b. cost [] (lines_of (if b then [] else put_absent layout z r key value)) ≤ 18) (is_full z.lines r) (λ _. omega arith)
     (λ _. subst (λ (a : ℕ). cost [] (a ∷ taken_line r ∷ taken_line r ∷ taken_line r ∷ layout.head_line (bucket_of z key) ∷ 0 ∷ []) ≤ 18) (sym (take_line r)) (put_cost 0 (taken_line r) (layout.head_line (bucket_of z key)))))
     (λ _. omega arith)
 
 -- a removal
-del_writes_cost : (layout : MapLayout) (z : Sizes) (r : RoomWords) (key : ℕ) → cost [] (lines_of (del_writes layout z r key)) ≤ 16
+del_writes_cost : (layout : Layout) (z : Sizes) (r : RoomWords) (key : ℕ) → cost [] (lines_of (del_writes layout z r key)) ≤ 16
 del_writes_cost layout z r key =
     by_test (λ b. cost [] (lines_of (if b then [] else del_present layout r (bucket_of z key) (node_before layout z r key) (node_of layout z r key))) ≤ 16) (node_of layout z r key) 0
     (λ _. omega arith) (λ _. del_cost (unlink_write layout r (bucket_of z key) (node_before layout z r key) (node_of layout z r key)).line (node_of layout z r key) 0)
@@ -162,7 +162,7 @@ del_writes_cost layout z r key =
 -- an item at the back
 enq_writes_cost : (z : Sizes) (r : RoomWords) (value : ℕ) → cost [] (lines_of (enq_writes z r value)) ≤ 22
 enq_writes_cost z r value =
-    by_Bool (λ b. cost [] (lines_of (if b then [] else enq_room r value)) ≤ 22) (is_full z r) (λ _. omega arith)
+    by_Bool (λ b. cost [] (lines_of (if b then [] else enq_room r value)) ≤ 22) (is_full z.lines r) (λ _. omega arith)
     (λ _. by_Bool (λ b. cost [] ((take_write r).line ∷ taken_line r ∷ taken_line r ∷ lines_of ((if b then write 1 0 (taken_line r) ∷ write 1 1 (taken_line r) ∷ [] else write (r 1 1) 1 (taken_line r) ∷ write 1 1 (taken_line r) ∷ []) ++ write 0 2 (r 0 2 + 1) ∷ [])) ≤ 22)
     (r 1 0 == 0)
     (λ _. subst (λ (a : ℕ). cost [] (a ∷ taken_line r ∷ taken_line r ∷ 1 ∷ 1 ∷ 0 ∷ []) ≤ 22) (sym (take_line r)) (enq_cost 0 (taken_line r) 1 1))
@@ -176,7 +176,7 @@ deq_writes_cost r =
     (λ _. last_cost 1 (r 1 0) 0) (λ _. let c = del_cost 1 (r 1 0) 0 in omega (arith, c)))
 
 -- the cost of a command
-command_cost : (layout : MapLayout) (z : Sizes) (r : RoomWords) (command : Command) → cost [] (lines_of (writes_of layout z r command)) ≤ most_stores command
+command_cost : (layout : Layout) (z : Sizes) (r : RoomWords) (command : Command) → cost [] (lines_of (writes_of layout z r command)) ≤ most_stores command
 command_cost layout z r (Put key value) = put_writes_cost layout z r key value
 command_cost layout z r (Get key) = omega arith
 command_cost layout z r (Del key) = del_writes_cost layout z r key

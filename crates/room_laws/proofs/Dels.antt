@@ -4,11 +4,10 @@ use Rattle.std.proofs.lemmas.Bool.Decides.{eqb_tells, nat_tests}
 use Rattle.std.specs.FinMap.{get, remove}
 use Rattle.seq_object.specs.History.{total}
 use Rattle.seq_object.specs.Object.{shard_of, Pairs}
-use Rattle.seq_object.specs.Sizes.{Sizes}
 use Rattle.room_model.specs.declared.write.Write.{Write}
 use Rattle.room_model.specs.Chains.{IsChain, times, is_node, RoomWords}
 use Rattle.room_model.specs.Writes.{write, written, del_present}
-use Rattle.room_model.specs.MapRoom.{MapLayout, IsMapLayout, head, bucket_of, found, AreKeys, IsMapRoom}
+use Rattle.room_model.specs.MapRoom.{Layout, IsLayout, head, bucket_of, found, AreKeys, IsMapRoom}
 use Rattle.room_model.specs.QueueRoom.{last_line}
 use Rattle.room_laws.proofs.Lists.{times-append, times-here, times-there, other_than, chain_same}
 use Rattle.room_laws.proofs.Totals.{one_where, total-part}
@@ -18,9 +17,10 @@ use Rattle.room_laws.proofs.Walks.{IsLocated}
 use Rattle.room_laws.proofs.Stock.{free_node, at_most_one}
 use Rattle.room_laws.proofs.Maps.{bucket_below, chain_node, chain_once, chain_apart, get_found, changed, not_key, stock_of}
 use Rattle.room_laws.proofs.Values.{IsPlaced, placed}
+use Rattle.seq_object.specs.declared.sizes.Sizes.{Sizes}
 
 -- node n leaves the chain of bucket b behind this node, or behind the head where that is 0, and is the first free line
-pub record Unlinks (layout : MapLayout) (b before n : ℕ) (r r' : RoomWords) : Type 0 where
+pub record Unlinks (layout : Layout) (b before n : ℕ) (r r' : RoomWords) : Type 0 where
   pub free : r' 0 0 ≡ n
   pub fresh : r' 0 1 ≡ r 0 1
   pub count : r' 0 2 ≡ r 0 2 - 1
@@ -70,7 +70,7 @@ unlink_written before n line word first r pos high low node = elim (eqb_tells be
 ]
 
 -- what the writes of a removal change
-pub unlinks : (layout : MapLayout) (b before n : ℕ) (r : RoomWords) → IsMapLayout layout → b < 8 → layout.first ≤ n → (before ≢ 0 → layout.first ≤ before) → Unlinks layout b before n r (written r (del_present layout r b before n))
+pub unlinks : (layout : Layout) (b before n : ℕ) (r : RoomWords) → IsLayout layout → b < 8 → layout.first ≤ n → (before ≢ 0 → layout.first ≤ before) → Unlinks layout b before n r (written r (del_present layout r b before n))
 unlinks layout b before n r laid below low node =
     let pos = laid.low b below in
     let high = laid.high b below in
@@ -88,7 +88,7 @@ unlinks layout b before n r laid below low node =
       nodes = λ x w far a c. u.places x w (omega (arith, far, pos, high)) a c (λ z e. absurd (omega (arith, e, high, far)));
     }
   where
-    not_before : (layout : MapLayout) (before line : ℕ) → (before ≢ 0 → layout.first ≤ before) → 0 < line → line < layout.first → line ≡ before → ⊥
+    not_before : (layout : Layout) (before line : ℕ) → (before ≢ 0 → layout.first ≤ before) → 0 < line → line < layout.first → line ≡ before → ⊥
     not_before layout before line node pos high e = let far = node (omega (arith, e, pos)) in omega (arith, e, high, far)
 
 -- the last of a list is in it
@@ -114,7 +114,7 @@ chain_without next next' s x n (y ∷ ys) back link same once h =
     (h.0, h.1, subst (λ (k : ℕ). IsChain next' k ((y ∷ ys) ++ back)) (sym (same x (omega (arith, one)) ne)) rest)
 
 -- the chain of the bucket, without its node n
-without : (layout : MapLayout) (b before n : ℕ) (r r' : RoomWords) (front back : List ℕ) → Unlinks layout b before n r r' → before ≡ last_line 0 front → 0 < layout.first
+without : (layout : Layout) (b before n : ℕ) (r r' : RoomWords) (front back : List ℕ) → Unlinks layout b before n r r' → before ≡ last_line 0 front → 0 < layout.first
     → ((y : ℕ) → 0 < times y (front ++ n ∷ back) → layout.first ≤ y) → ((y : ℕ) → times y (front ++ n ∷ back) ≤ 1)
     → IsChain (λ x. r x 2) (head layout r b) (front ++ n ∷ back) → IsChain (λ x. r' x 2) (head layout r' b) (front ++ back)
 without layout b before n r r' [] back u is pos far once h =
@@ -131,7 +131,7 @@ without layout b before n r r' (x ∷ front) back u is pos far once h =
     subst (λ (s : ℕ). IsChain (λ y. r' y 2) s ((x ∷ front) ++ back)) (sym (u.head_same some)) rest
 
 -- a room whose node has left its chain stands for the pairs without its key
-pub del_present_room : (layout : MapLayout) (z : Sizes) (shard key n before : ℕ) (r r' : RoomWords) (pairs : Pairs) → IsMapLayout layout → (room : IsMapRoom layout z shard r pairs)
+pub del_present_room : (layout : Layout) (z : Sizes) (shard key n before : ℕ) (r r' : RoomWords) (pairs : Pairs) → IsLayout layout → (room : IsMapRoom layout z shard r pairs)
     → shard_of z key ≡ shard → IsLocated r key (room.chain (bucket_of z key)) 0 n before → Unlinks layout (bucket_of z key) before n r r' → IsMapRoom layout z shard r' (remove pairs key)
 del_present_room layout z shard key n before r r' pairs laid room mine at u =
     let b = bucket_of z key in

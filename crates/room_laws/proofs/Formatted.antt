@@ -4,7 +4,6 @@ use Rattle.std.proofs.lemmas.Bool.Decides.{nat_tests}
 use Rattle.std.specs.Ordering.{nat_cmp}
 use Rattle.std.specs.FinMap.{get-empty}
 use Rattle.seq_object.specs.Object.{shard_of}
-use Rattle.seq_object.specs.Sizes.{Sizes}
 use Rattle.room_model.specs.Chains.{is_node}
 use Rattle.room_model.specs.Formatted.{formatted}
 use Rattle.room_model.specs.MapRoom.{IsMapRoom}
@@ -17,6 +16,7 @@ use Rattle.room_laws.proofs.Shards.{get_shard}
 use Rattle.std.specs.FinMap.{empty}
 use Rattle.std.proofs.Common.{cond}
 use Rattle.seq_object.specs.Object.{shard_pairs, no_contents}
+use Rattle.seq_object.specs.declared.sizes.Sizes.{Sizes}
 
 -- the law on a formatted map room
 pub map_formatted_law : MapFormattedLaw

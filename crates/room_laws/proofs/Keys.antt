@@ -7,12 +7,12 @@ use Rattle.std.specs.FinMap.{get, remove, len, len-remove, len-empty, get-empty,
 use Rattle.std.proofs.lemmas.Cmp.{nat_cmp_total}
 use Rattle.seq_object.specs.History.{total}
 use Rattle.seq_object.specs.Object.{shard_of, Pairs}
-use Rattle.seq_object.specs.Sizes.{Sizes}
 use Rattle.seq_object.proofs.Pairs.{got_removed}
 use Rattle.room_model.specs.Chains.{times, RoomWords}
 use Rattle.room_model.specs.MapRoom.{found, AreKeys, bucket_of}
 use Rattle.room_laws.proofs.Totals.{total-positive}
 use Rattle.room_laws.proofs.Lists.{times-append, times-here, times-there}
+use Rattle.seq_object.specs.declared.sizes.Sizes.{Sizes}
 
 -- the first line's key is found there
 pub found-here : (r : RoomWords) (key x : ℕ) (xs : List ℕ) → r x 0 ≡ key → found r key (x ∷ xs) ≡ Some (r x 1)

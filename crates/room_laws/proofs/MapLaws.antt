@@ -10,10 +10,9 @@ use Rattle.seq_object.specs.declared.command.Command.TheVariants.{Put}
 use Rattle.seq_object.specs.declared.command.Reply.{Reply}
 use Rattle.seq_object.specs.declared.command.Reply.TheVariants.{New, Old, Full}
 use Rattle.seq_object.specs.Object.{put_reply, put_pairs, Pairs}
-use Rattle.seq_object.specs.Sizes.{Sizes}
 use Rattle.room_model.specs.Chains.{times, RoomWords}
 use Rattle.room_model.specs.Writes.{written, is_full, node_of, node_before, put_present, put_absent, del_present, put_writes, del_writes, answer_of}
-use Rattle.room_model.specs.MapRoom.{MapLayout, IsMapLayout, head, bucket_of, found, IsMapRoom}
+use Rattle.room_model.specs.MapRoom.{Layout, IsLayout, head, bucket_of, found, IsMapRoom}
 use Rattle.room_model.specs.QueueRoom.{last_line}
 use Rattle.room_laws.specs.MapRows.{IsRoomOfKey, LayoutsLaw, GetLaw, PutPresentLaw, PutAbsentLaw, MapFullLaw, DelPresentLaw, DelAbsentLaw}
 use Rattle.room_laws.proofs.Stock.{take, full_tells, stock_size}
@@ -26,13 +25,14 @@ use Rattle.room_laws.proofs.Maps.{bucket_below, stock_of, chain_node, chain_leng
 use Rattle.room_laws.proofs.Puts.{puts_front, put_absent_room}
 use Rattle.room_laws.proofs.Values.{sets_value, put_present_room}
 use Rattle.room_laws.proofs.Dels.{unlinks, del_present_room, last_in}
+use Rattle.seq_object.specs.declared.sizes.Sizes.{Sizes}
 
 -- a head a line is a layout
-one_head : IsMapLayout one_head_a_line
+one_head : IsLayout one_head_a_line
 one_head = record { low = λ b lt. omega arith; high = λ b lt. omega arith; word = λ b lt. omega arith; apart = λ b c lt lu e f. omega arith }
 
 -- three heads a line is a layout
-three_heads : IsMapLayout three_heads_a_line
+three_heads : IsLayout three_heads_a_line
 three_heads = record { low = λ b lt. omega arith; high = λ b lt. omega arith; word = λ b lt. omega arith; apart = λ b c lt lu e f. omega arith }
 
 -- the law on layouts
@@ -40,14 +40,14 @@ pub layouts : LayoutsLaw
 layouts = record { one_head = one_head; three_heads = three_heads; in_use = one_head; capacity = λ z. refl }
 
 -- where the walk for a key ends
-located : (layout : MapLayout) (z : Sizes) (shard : ℕ) (r : RoomWords) (pairs : Pairs) (key : ℕ) → IsMapLayout layout → (room : IsMapRoom layout z shard r pairs)
+located : (layout : Layout) (z : Sizes) (shard : ℕ) (r : RoomWords) (pairs : Pairs) (key : ℕ) → IsLayout layout → (room : IsMapRoom layout z shard r pairs)
     → Located r key (room.chain (bucket_of z key)) 0 (node_of layout z r key) (node_before layout z r key)
 located layout z shard r pairs key laid room =
     let below = bucket_below z key in
     locate r key z.lines 0 (head layout r (bucket_of z key)) (room.chain (bucket_of z key)) (room.chained (bucket_of z key) below) (chain_length layout z shard r pairs laid room (bucket_of z key) below)
 
 -- a key that has a node
-pub key_node : (layout : MapLayout) (z : Sizes) (shard : ℕ) (r : RoomWords) (pairs : Pairs) (key : ℕ) → IsMapLayout layout → (room : IsMapRoom layout z shard r pairs) → node_of layout z r key ≢ 0
+pub key_node : (layout : Layout) (z : Sizes) (shard : ℕ) (r : RoomWords) (pairs : Pairs) (key : ℕ) → IsLayout layout → (room : IsMapRoom layout z shard r pairs) → node_of layout z r key ≢ 0
     → IsLocated r key (room.chain (bucket_of z key)) 0 (node_of layout z r key) (node_before layout z r key)
 key_node layout z shard r pairs key laid room some = elim (located layout z shard r pairs key laid room) [
   | inl a ↦ absurd (some a.zero_line)
@@ -71,11 +71,11 @@ get_law layout z shard r pairs key h = elim (located layout z shard r pairs key 
 ]
 
 -- a key without a node is in no pair
-absent : (layout : MapLayout) (z : Sizes) (shard : ℕ) (r : RoomWords) (pairs : Pairs) (key : ℕ) → IsRoomOfKey layout z shard r pairs key → node_of layout z r key ≡ 0 → get pairs key ≡ None
+absent : (layout : Layout) (z : Sizes) (shard : ℕ) (r : RoomWords) (pairs : Pairs) (key : ℕ) → IsRoomOfKey layout z shard r pairs key → node_of layout z r key ≡ 0 → get pairs key ≡ None
 absent layout z shard r pairs key h none = get_law layout z shard r pairs key h ∙ ap (λ (b : Bool). if b then None else Some (r (node_of layout z r key) 1)) (eq-eqb (node_of layout z r key) 0 none)
 
 -- a key with a node has its value
-present : (layout : MapLayout) (z : Sizes) (shard : ℕ) (r : RoomWords) (pairs : Pairs) (key : ℕ) → IsRoomOfKey layout z shard r pairs key → node_of layout z r key ≢ 0 → get pairs key ≡ Some (r (node_of layout z r key) 1)
+present : (layout : Layout) (z : Sizes) (shard : ℕ) (r : RoomWords) (pairs : Pairs) (key : ℕ) → IsRoomOfKey layout z shard r pairs key → node_of layout z r key ≢ 0 → get pairs key ≡ Some (r (node_of layout z r key) 1)
 present layout z shard r pairs key h some = get_law layout z shard r pairs key h ∙ ap (λ (b : Bool). if b then None else Some (r (node_of layout z r key) 1)) (ne_eqb (node_of layout z r key) 0 some)
 
 -- the law on a put of a key that is there
@@ -106,7 +106,7 @@ map_full_law layout z shard r pairs laid room =
     same_tests a b f l e le = grind (arith, nat_tests)
 
 -- the node of a key is one of the room's nodes
-pub node_there : (layout : MapLayout) (z : Sizes) (shard : ℕ) (r : RoomWords) (pairs : Pairs) (key : ℕ) → IsMapLayout layout → (room : IsMapRoom layout z shard r pairs) → node_of layout z r key ≢ 0
+pub node_there : (layout : Layout) (z : Sizes) (shard : ℕ) (r : RoomWords) (pairs : Pairs) (key : ℕ) → IsLayout layout → (room : IsMapRoom layout z shard r pairs) → node_of layout z r key ≢ 0
     → (layout.first ≤ node_of layout z r key) × (node_of layout z r key < r 0 1)
 node_there layout z shard r pairs key laid room some =
     let n = node_of layout z r key in
@@ -116,7 +116,7 @@ node_there layout z shard r pairs key laid room some =
     chain_node layout z shard r pairs room (bucket_of z key) n (bucket_below z key) (omega (arith, split, one))
 
 -- and so is the one before it, where there is one
-pub before_there : (layout : MapLayout) (z : Sizes) (shard : ℕ) (r : RoomWords) (pairs : Pairs) (key : ℕ) → IsMapLayout layout → (room : IsMapRoom layout z shard r pairs) → node_of layout z r key ≢ 0
+pub before_there : (layout : Layout) (z : Sizes) (shard : ℕ) (r : RoomWords) (pairs : Pairs) (key : ℕ) → IsLayout layout → (room : IsMapRoom layout z shard r pairs) → node_of layout z r key ≢ 0
     → node_before layout z r key ≢ 0 → (layout.first ≤ node_before layout z r key) × (node_before layout z r key < r 0 1)
 before_there layout z shard r pairs key laid room some there =
     let at = key_node layout z shard r pairs key laid room some in
@@ -152,28 +152,28 @@ del_absent_law layout z shard r pairs key h none = same_map nat_cmp_total nat_cm
     ]
 
 -- whether the shard is full, by the room's lines for nodes
-abbrev pub is_stock_full : MapLayout → Sizes → Pairs → Bool
+abbrev pub is_stock_full : Layout → Sizes → Pairs → Bool
 is_stock_full layout z pairs = nat_le (z.lines - layout.first) (len pairs)
 
 -- a put, on all its rows
-pub put_after : (layout : MapLayout) (z : Sizes) (shard : ℕ) (r : RoomWords) (pairs : Pairs) (key value : ℕ) → IsRoomOfKey layout z shard r pairs key
+pub put_after : (layout : Layout) (z : Sizes) (shard : ℕ) (r : RoomWords) (pairs : Pairs) (key value : ℕ) → IsRoomOfKey layout z shard r pairs key
     → IsMapRoom layout z shard (written r (put_writes layout z r key value)) (put_pairs pairs key value (get pairs key) (is_stock_full layout z pairs))
 put_after layout z shard r pairs key value h =
-    by_test (λ b. IsMapRoom layout z shard (written r (if b then (if is_full z r then [] else put_absent layout z r key value) else put_present (node_of layout z r key) value)) (put_pairs pairs key value (get pairs key) (is_stock_full layout z pairs)))
+    by_test (λ b. IsMapRoom layout z shard (written r (if b then (if is_full z.lines r then [] else put_absent layout z r key value) else put_present (node_of layout z r key) value)) (put_pairs pairs key value (get pairs key) (is_stock_full layout z pairs)))
     (node_of layout z r key) 0
-    (λ none. subst (λ (o : Option ℕ). IsMapRoom layout z shard (written r (if is_full z r then [] else put_absent layout z r key value)) (put_pairs pairs key value o (is_stock_full layout z pairs))) (sym (absent layout z shard r pairs key h none))
+    (λ none. subst (λ (o : Option ℕ). IsMapRoom layout z shard (written r (if is_full z.lines r then [] else put_absent layout z r key value)) (put_pairs pairs key value o (is_stock_full layout z pairs))) (sym (absent layout z shard r pairs key h none))
     (by_full none))
     (λ some. subst (λ (o : Option ℕ). IsMapRoom layout z shard (written r (put_present (node_of layout z r key) value)) (put_pairs pairs key value o (is_stock_full layout z pairs))) (sym (present layout z shard r pairs key h some))
     (put_present_law layout z shard r pairs key value h some))
   where
-    by_full : node_of layout z r key ≡ 0 → IsMapRoom layout z shard (written r (if is_full z r then [] else put_absent layout z r key value)) (put_pairs pairs key value None (is_stock_full layout z pairs))
+    by_full : node_of layout z r key ≡ 0 → IsMapRoom layout z shard (written r (if is_full z.lines r then [] else put_absent layout z r key value)) (put_pairs pairs key value None (is_stock_full layout z pairs))
     by_full none =
-        subst (λ (b : Bool). IsMapRoom layout z shard (written r (if is_full z r then [] else put_absent layout z r key value)) (put_pairs pairs key value None b)) (map_full_law layout z shard r pairs h.laid h.room)
-        (by_Bool (λ b. IsMapRoom layout z shard (written r (if b then [] else put_absent layout z r key value)) (put_pairs pairs key value None b)) (is_full z r)
+        subst (λ (b : Bool). IsMapRoom layout z shard (written r (if is_full z.lines r then [] else put_absent layout z r key value)) (put_pairs pairs key value None b)) (map_full_law layout z shard r pairs h.laid h.room)
+        (by_Bool (λ b. IsMapRoom layout z shard (written r (if b then [] else put_absent layout z r key value)) (put_pairs pairs key value None b)) (is_full z.lines r)
         (λ full. h.room) (λ space. put_absent_law layout z shard r pairs key value h none space))
 
 -- a removal, on all its rows
-pub del_after : (layout : MapLayout) (z : Sizes) (shard : ℕ) (r : RoomWords) (pairs : Pairs) (key : ℕ) → IsRoomOfKey layout z shard r pairs key
+pub del_after : (layout : Layout) (z : Sizes) (shard : ℕ) (r : RoomWords) (pairs : Pairs) (key : ℕ) → IsRoomOfKey layout z shard r pairs key
     → IsMapRoom layout z shard (written r (del_writes layout z r key)) (remove pairs key)
 del_after layout z shard r pairs key h =
     by_test (λ b. IsMapRoom layout z shard (written r (if b then [] else del_present layout r (bucket_of z key) (node_before layout z r key) (node_of layout z r key))) (remove pairs key))
@@ -187,15 +187,15 @@ absent_reply true = refl
 absent_reply false = refl
 
 -- the answer to a put is the reply
-pub put_answer : (layout : MapLayout) (z : Sizes) (shard : ℕ) (r : RoomWords) (pairs : Pairs) (key value : ℕ) → IsRoomOfKey layout z shard r pairs key
+pub put_answer : (layout : Layout) (z : Sizes) (shard : ℕ) (r : RoomWords) (pairs : Pairs) (key value : ℕ) → IsRoomOfKey layout z shard r pairs key
     → answer_of layout z r (Put key value) ≡ Some (put_reply (get pairs key) (is_stock_full layout z pairs))
 put_answer layout z shard r pairs key value h =
-    by_test (λ b. Some (if b then (if is_full z r then Full else New) else Old (r (node_of layout z r key) 1)) ≡ Some (put_reply (get pairs key) (is_stock_full layout z pairs))) (node_of layout z r key) 0
-    (λ none. ap Some (absent_reply (is_full z r) ∙ ap (put_reply None) (map_full_law layout z shard r pairs h.laid h.room) ∙ sym (ap (λ (o : Option ℕ). put_reply o (is_stock_full layout z pairs)) (absent layout z shard r pairs key h none))))
+    by_test (λ b. Some (if b then (if is_full z.lines r then Full else New) else Old (r (node_of layout z r key) 1)) ≡ Some (put_reply (get pairs key) (is_stock_full layout z pairs))) (node_of layout z r key) 0
+    (λ none. ap Some (absent_reply (is_full z.lines r) ∙ ap (put_reply None) (map_full_law layout z shard r pairs h.laid h.room) ∙ sym (ap (λ (o : Option ℕ). put_reply o (is_stock_full layout z pairs)) (absent layout z shard r pairs key h none))))
     (λ some. ap Some (sym (ap (λ (o : Option ℕ). put_reply o (is_stock_full layout z pairs)) (present layout z shard r pairs key h some))))
 
 -- the answer to a command that only looks a key up is the reply
-pub look_up_answer : (reply : Option ℕ → Reply) (layout : MapLayout) (z : Sizes) (shard : ℕ) (r : RoomWords) (pairs : Pairs) (key : ℕ) → IsRoomOfKey layout z shard r pairs key
+pub look_up_answer : (reply : Option ℕ → Reply) (layout : Layout) (z : Sizes) (shard : ℕ) (r : RoomWords) (pairs : Pairs) (key : ℕ) → IsRoomOfKey layout z shard r pairs key
     → Some (let n = node_of layout z r key in if n == 0 then reply None else reply (Some (r n 1))) ≡ Some (reply (get pairs key))
 look_up_answer reply layout z shard r pairs key h =
     by_test (λ b. Some (if b then reply None else reply (Some (r (node_of layout z r key) 1))) ≡ Some (reply (get pairs key))) (node_of layout z r key) 0

@@ -5,13 +5,13 @@ use Rattle.std.proofs.lemmas.Bool.{ne_eqb}
 use Rattle.std.specs.FinMap.{get, len}
 use Rattle.seq_object.specs.History.{total}
 use Rattle.seq_object.specs.Object.{shard_of, Pairs}
-use Rattle.seq_object.specs.Sizes.{Sizes}
 use Rattle.room_model.specs.Chains.{IsChain, times, is_node, RoomWords}
-use Rattle.room_model.specs.MapRoom.{MapLayout, IsMapLayout, head, bucket_of, found, AreKeys, IsMapRoom}
+use Rattle.room_model.specs.MapRoom.{Layout, IsLayout, head, bucket_of, found, AreKeys, IsMapRoom}
 use Rattle.room_laws.proofs.Totals.{total-changed, total-part, total-two_parts, one_where}
 use Rattle.room_laws.proofs.Lists.{chain_same}
 use Rattle.room_laws.proofs.Stock.{IsStock, stock_size, at_most_one, node}
 use Rattle.room_laws.proofs.Keys.{joined, times-joined, length-joined, found-same, keys-same, apart-joined, found-joined, found-joined_none, len-lines}
+use Rattle.seq_object.specs.declared.sizes.Sizes.{Sizes}
 
 -- the chains with this one in place of that of bucket b
 abbrev pub with_chain : (ℕ → List ℕ) → ℕ → List ℕ → ℕ → List ℕ
@@ -44,7 +44,7 @@ pub bucket_below : (z : Sizes) (key : ℕ) → bucket_of z key < 8
 bucket_below z key = omega arith
 
 -- the room's lines as held and free ones
-pub stock_of : (layout : MapLayout) (z : Sizes) (shard : ℕ) (r : RoomWords) (pairs : Pairs) → IsMapLayout layout → (room : IsMapRoom layout z shard r pairs) → IsStock layout.first z (joined room.chain 8) room.free r
+pub stock_of : (layout : Layout) (z : Sizes) (shard : ℕ) (r : RoomWords) (pairs : Pairs) → IsLayout layout → (room : IsMapRoom layout z shard r pairs) → IsStock layout.first z (joined room.chain 8) room.free r
 stock_of layout z shard r pairs laid room = record {
   positive = let a = laid.low 0 (omega arith) in let b = laid.high 0 (omega arith) in omega (arith, a, b);
   low = room.low;
@@ -54,27 +54,27 @@ stock_of layout z shard r pairs laid room = record {
 }
 
 -- a line of a chain is a node, in this chain once and in no other
-pub chain_node : (layout : MapLayout) (z : Sizes) (shard : ℕ) (r : RoomWords) (pairs : Pairs) (room : IsMapRoom layout z shard r pairs) (b x : ℕ) → b < 8 → 0 < times x (room.chain b) → (layout.first ≤ x) × (x < r 0 1)
+pub chain_node : (layout : Layout) (z : Sizes) (shard : ℕ) (r : RoomWords) (pairs : Pairs) (room : IsMapRoom layout z shard r pairs) (b x : ℕ) → b < 8 → 0 < times x (room.chain b) → (layout.first ≤ x) × (x < r 0 1)
 chain_node layout z shard r pairs room b x lt pos =
     let part = total-part (λ c. times x (room.chain c)) b 8 lt in
     node layout.first (r 0 1) x (total (λ c. times x (room.chain c)) 8 + times x room.free) (omega (arith, part)) (room.each x)
 
 -- a line stands in a chain at most once
-pub chain_once : (layout : MapLayout) (z : Sizes) (shard : ℕ) (r : RoomWords) (pairs : Pairs) (room : IsMapRoom layout z shard r pairs) (b x : ℕ) → b < 8 → times x (room.chain b) ≤ 1
+pub chain_once : (layout : Layout) (z : Sizes) (shard : ℕ) (r : RoomWords) (pairs : Pairs) (room : IsMapRoom layout z shard r pairs) (b x : ℕ) → b < 8 → times x (room.chain b) ≤ 1
 chain_once layout z shard r pairs room b x lt =
     let part = total-part (λ c. times x (room.chain c)) b 8 lt in
     let one = at_most_one (is_node layout.first (r 0 1) x) (total (λ c. times x (room.chain c)) 8 + times x room.free) (room.each x) in
     omega (arith, part, one)
 
 -- a line of a chain stands in no other
-pub chain_apart : (layout : MapLayout) (z : Sizes) (shard : ℕ) (r : RoomWords) (pairs : Pairs) (room : IsMapRoom layout z shard r pairs) (b c x : ℕ) → b < 8 → c < 8 → c ≢ b → 0 < times x (room.chain b) → times x (room.chain c) ≡ 0
+pub chain_apart : (layout : Layout) (z : Sizes) (shard : ℕ) (r : RoomWords) (pairs : Pairs) (room : IsMapRoom layout z shard r pairs) (b c x : ℕ) → b < 8 → c < 8 → c ≢ b → 0 < times x (room.chain b) → times x (room.chain c) ≡ 0
 chain_apart layout z shard r pairs room b c x lt lu ne pos =
     let parts = total-two_parts (λ d. times x (room.chain d)) b c 8 lt lu (λ e. ne (sym e)) in
     let one = at_most_one (is_node layout.first (r 0 1) x) (total (λ d. times x (room.chain d)) 8 + times x room.free) (room.each x) in
     omega (arith, parts, one, pos)
 
 -- a chain has no more lines than the room
-pub chain_length : (layout : MapLayout) (z : Sizes) (shard : ℕ) (r : RoomWords) (pairs : Pairs) → IsMapLayout layout → (room : IsMapRoom layout z shard r pairs) (b : ℕ) → b < 8 → length (room.chain b) ≤ z.lines
+pub chain_length : (layout : Layout) (z : Sizes) (shard : ℕ) (r : RoomWords) (pairs : Pairs) → IsLayout layout → (room : IsMapRoom layout z shard r pairs) (b : ℕ) → b < 8 → length (room.chain b) ≤ z.lines
 chain_length layout z shard r pairs laid room b lt =
     let size = stock_size layout.first z (joined room.chain 8) room.free r (stock_of layout z shard r pairs laid room) in
     let sum = length-joined room.chain 8 in
@@ -83,7 +83,7 @@ chain_length layout z shard r pairs laid room b lt =
     omega (arith, size, sum, part, high)
 
 -- what the pairs have at a key is what all chains have
-pub get_joined : (layout : MapLayout) (z : Sizes) (shard : ℕ) (r : RoomWords) (pairs : Pairs) (room : IsMapRoom layout z shard r pairs) (key : ℕ) → get pairs key ≡ found r key (joined room.chain 8)
+pub get_joined : (layout : Layout) (z : Sizes) (shard : ℕ) (r : RoomWords) (pairs : Pairs) (room : IsMapRoom layout z shard r pairs) (key : ℕ) → get pairs key ≡ found r key (joined room.chain 8)
 get_joined layout z shard r pairs room key = room.keyed key ∙ at key
   where
     at : (key : ℕ) → (if shard_of z key == shard then found r key (room.chain (bucket_of z key)) else None) ≡ found r key (joined room.chain 8)
@@ -93,16 +93,16 @@ get_joined layout z shard r pairs room key = room.keyed key ∙ at key
     ]
 
 -- there are as many keys as the chains have lines
-pub map_size : (layout : MapLayout) (z : Sizes) (shard : ℕ) (r : RoomWords) (pairs : Pairs) (room : IsMapRoom layout z shard r pairs) → len pairs ≡ length (joined room.chain 8)
+pub map_size : (layout : Layout) (z : Sizes) (shard : ℕ) (r : RoomWords) (pairs : Pairs) (room : IsMapRoom layout z shard r pairs) → len pairs ≡ length (joined room.chain 8)
 map_size layout z shard r pairs room =
     len-lines r (joined room.chain 8) pairs (apart-joined r z shard room.chain 8 room.keys) (λ key. get_joined layout z shard r pairs room key)
 
 -- what the pairs have at a key of the shard
-pub get_found : (layout : MapLayout) (z : Sizes) (shard : ℕ) (r : RoomWords) (pairs : Pairs) (room : IsMapRoom layout z shard r pairs) (key : ℕ) → shard_of z key ≡ shard → get pairs key ≡ found r key (room.chain (bucket_of z key))
+pub get_found : (layout : Layout) (z : Sizes) (shard : ℕ) (r : RoomWords) (pairs : Pairs) (room : IsMapRoom layout z shard r pairs) (key : ℕ) → shard_of z key ≡ shard → get pairs key ≡ found r key (room.chain (bucket_of z key))
 get_found layout z shard r pairs room key mine = room.keyed key ∙ ap (λ (b : Bool). if b then found r key (room.chain (bucket_of z key)) else None) (eq-eqb (shard_of z key) shard mine)
 
 -- bucket b's chain and the free list are changed, the others are not
-pub record ChangesBucket (layout : MapLayout) (z : Sizes) (shard b : ℕ) (r r' : RoomWords) (pairs pairs' : Pairs) (room : IsMapRoom layout z shard r pairs) (xs free : List ℕ) : Type 0 where
+pub record ChangesBucket (layout : Layout) (z : Sizes) (shard b : ℕ) (r r' : RoomWords) (pairs pairs' : Pairs) (room : IsMapRoom layout z shard r pairs) (xs free : List ℕ) : Type 0 where
   pub below : b < 8
   pub low : layout.first ≤ r' 0 1
   pub high : r' 0 1 ≤ z.lines
@@ -117,7 +117,7 @@ pub record ChangesBucket (layout : MapLayout) (z : Sizes) (shard b : ℕ) (r r' 
   pub there : (key : ℕ) → (shard_of z key ≡ shard → bucket_of z key ≡ b → ⊥) → get pairs' key ≡ get pairs key
 
 -- then the room stands for the new pairs
-pub changed : (layout : MapLayout) (z : Sizes) (shard b : ℕ) (r r' : RoomWords) (pairs pairs' : Pairs) (room : IsMapRoom layout z shard r pairs) (xs free : List ℕ)
+pub changed : (layout : Layout) (z : Sizes) (shard b : ℕ) (r r' : RoomWords) (pairs pairs' : Pairs) (room : IsMapRoom layout z shard r pairs) (xs free : List ℕ)
     → ChangesBucket layout z shard b r r' pairs pairs' room xs free → IsMapRoom layout z shard r' pairs'
 changed layout z shard b r r' pairs pairs' room xs free new = record {
   chain = with_chain room.chain b xs;

@@ -6,14 +6,14 @@ use Rattle.std.proofs.lemmas.List.{map-append}
 use Rattle.std.specs.Ordering.{nat_cmp}
 use Rattle.std.specs.FinMap.{find, get-from_entries, same_map, nat_cmp-IsAntisymmetric}
 use Rattle.std.proofs.lemmas.Cmp.{nat_cmp_total}
-use Rattle.seq_object.specs.Sizes.{Sizes}
 use Rattle.room_model.specs.Chains.{IsChain, RoomWords}
-use Rattle.room_model.specs.MapRoom.{MapLayout, head, found}
-use Rattle.room_laws.specs.Walks.{pairs_from, pairs_below, map_of}
+use Rattle.room_model.specs.MapRoom.{Layout, head, found}
+use Rattle.room_model.specs.Walks.{pairs_from, pairs_below, map_of}
 use Rattle.room_laws.specs.Rooms.{MapPairsLaw}
 use Rattle.seq_object.proofs.Pairs.{same_test}
 use Rattle.room_laws.proofs.Keys.{joined}
 use Rattle.room_laws.proofs.Maps.{get_joined, chain_length}
+use Rattle.seq_object.specs.declared.sizes.Sizes.{Sizes}
 
 -- the key and the value of a line
 abbrev pub pair_of : RoomWords → ℕ → ℕ × ℕ
@@ -29,7 +29,7 @@ walked r (suc fuel) start (x ∷ xs) chain fits =
     ap (pairs_from r (suc fuel)) chain.0 ∙ ap (λ (b : Bool). if b then [] else (r x 0, r x 1) ∷ pairs_from r fuel (r x 2)) (ne_eqb x 0 chain.1) ∙ ap (λ (ys : List (ℕ × ℕ)). (r x 0, r x 1) ∷ ys) rest
 
 -- the walks over all chains give the pairs of their lines
-pub all_walked : (layout : MapLayout) (z : Sizes) (r : RoomWords) (chain : ℕ → List ℕ) (n : ℕ) → ((b : ℕ) → b < n → IsChain (λ x. r x 2) (head layout r b) (chain b)) → ((b : ℕ) → b < n → length (chain b) ≤ z.lines)
+pub all_walked : (layout : Layout) (z : Sizes) (r : RoomWords) (chain : ℕ → List ℕ) (n : ℕ) → ((b : ℕ) → b < n → IsChain (λ x. r x 2) (head layout r b) (chain b)) → ((b : ℕ) → b < n → length (chain b) ≤ z.lines)
     → pairs_below layout z r n ≡ map (pair_of r) (joined chain n)
 all_walked layout z r chain zero chained fits = refl
 all_walked layout z r chain (suc n) chained fits =

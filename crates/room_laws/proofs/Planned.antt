@@ -4,11 +4,10 @@ use Rattle.std.proofs.lemmas.Bool.Decides.{nat_tests}
 use Rattle.seq_object.specs.Object.{contents_after, room_of}
 use Rattle.room_model.specs.declared.write.Write.{Write}
 use Rattle.room_model.specs.declared.write.PlannedStore.{PlannedStore}
-use Rattle.room_model.specs.Chains.{RoomWords, with_word}
+use Rattle.room_model.specs.Chains.{RoomWords, with_word, HasSameRecords}
 use Rattle.room_model.specs.Rooms.{StandsFor}
-use Rattle.room_model.specs.Writes.{written, writes_of, store, stored_in, touches, write_stores, stores_behind}
-use Rattle.room_laws.specs.Rooms.{HasSameRecords, AreWithin}
-use Rattle.room_laws.specs.Stores.{AreRecordWrites, AreStoresWithin, PlannedWriteLaw, StoresLaw, StoresInPiecesLaw, CommandStoresLaw, StoresWithinLaw, CommandWithinLaw}
+use Rattle.room_model.specs.Writes.{written, writes_of, store, stored_in, touches, write_stores, stores_behind, AreStoresWithin}
+use Rattle.room_laws.specs.Stores.{PlannedWriteLaw, StoresLaw, StoresInPiecesLaw, CommandStoresLaw, StoresWithinLaw, CommandWithinLaw}
 use Rattle.room_laws.proofs.Tests.{by_test, by_Bool}
 use Rattle.room_laws.proofs.Words.{words}
 use Rattle.room_laws.proofs.AllRows.{command_after, other_command, within}
@@ -31,17 +30,17 @@ behind_backup q at a b c epoch line w lt =
     ∙ other_word q at 3 a line w (omega arith)
 
 -- one word changed in two rooms of the same records
-pub same_with : (q p : RoomWords) (at k value : ℕ) → HasSameRecords q p → HasSameRecords (with_word q at k value) (with_word p at k value)
+pub same_with : (q p : RoomWords) (at k value : ℕ) → HasSameRecords p q → HasSameRecords (with_word p at k value) (with_word q at k value)
 same_with q p at k value same line w lt = ap (λ (n : ℕ). if (line == at) && (w == k) then value else n) (same line w lt)
 
 -- the same writes in two rooms of the same records
-pub same_written : (q p : RoomWords) (ws : List Write) → HasSameRecords q p → HasSameRecords (written q ws) (written p ws)
+pub same_written : (q p : RoomWords) (ws : List Write) → HasSameRecords p q → HasSameRecords (written p ws) (written q ws)
 same_written q p [] same = same
 same_written q p (x ∷ xs) same = same_written (with_word q x.line x.word x.value) (with_word p x.line x.word x.value) xs (same_with q p x.line x.word x.value same)
 
 -- the law on one planned write
 pub planned_write : PlannedWriteLaw
-planned_write epoch r before x record_word line w lt =
+planned_write epoch r before x line w lt =
     ap (λ (q : RoomWords). q line w) (stored-append r before (write_stores epoch r before x))
     ∙ by_Bool (λ b. stored_in q (if b then store x.line x.word x.value ∷ [] else store x.line 3 (r x.line 0) ∷ store x.line 4 (r x.line 1) ∷ store x.line 5 (r x.line 2) ∷ store x.line 6 epoch ∷ store x.line x.word x.value ∷ []) line w
     ≡ with_word q x.line x.word x.value line w) ((r x.line 6 == epoch) || touches x.line before)
@@ -54,20 +53,15 @@ planned_write epoch r before x record_word line w lt =
 
 -- the law on planned writes
 pub all_stores : StoresLaw
-all_stores epoch r before [] records line w lt = refl
-all_stores epoch r before (x ∷ xs) records line w lt =
-    all_stores epoch r (before ++ write_stores epoch r before x) xs records.1 line w lt
-    ∙ same_written (with_word (stored_in r before) x.line x.word x.value) (stored_in r (before ++ write_stores epoch r before x)) xs (planned_write epoch r before x records.0) line w lt
+all_stores epoch r before [] line w lt = refl
+all_stores epoch r before (x ∷ xs) line w lt =
+    all_stores epoch r (before ++ write_stores epoch r before x) xs line w lt
+    ∙ same_written (with_word (stored_in r before) x.line x.word x.value) (stored_in r (before ++ write_stores epoch r before x)) xs (planned_write epoch r before x) line w lt
 
 -- the law on writes in two pieces
 pub in_pieces : StoresInPiecesLaw
 in_pieces epoch r before [] vs = refl
 in_pieces epoch r before (x ∷ xs) vs = in_pieces epoch r (before ++ write_stores epoch r before x) xs vs
-
--- writes within lines are of record words
-pub of_records : (lines : ℕ) (ws : List Write) → AreWithin lines ws → AreRecordWrites ws
-of_records lines [] h = tt
-of_records lines (x ∷ xs) h = (h.1, of_records lines xs h.2)
 
 -- the law on the planned stores of a command
 pub command_stands : CommandStoresLaw
@@ -75,7 +69,7 @@ command_stands layout z epoch room r c command laid capacity pos stands =
     by_test (λ b. StandsFor layout z room (stored_in r (if b then stores_behind epoch r [] (writes_of layout z r command) else [])) (contents_after z c command)) (room_of z command) room
     (λ own. words layout z room (written r (writes_of layout z r command)) (stored_in r (stores_behind epoch r [] (writes_of layout z r command))) (contents_after z c command) laid
     (command_after layout z room r c command laid capacity pos stands own)
-    (all_stores epoch r [] (writes_of layout z r command) (of_records z.lines (writes_of layout z r command) (within layout z room r c command laid pos stands own))))
+    (all_stores epoch r [] (writes_of layout z r command)))
     (λ other. other_command layout z room r c command stands other)
 
 -- two lists of stores within

@@ -3,20 +3,20 @@ use Rattle.std.proofs.Common.{◌≡◌, ℕ, ◌+◌, ◌<◌, ◌≤◌, ◌�
 use Rattle.std.proofs.lemmas.Bool.Decides.{eqb_tells, nat_tests}
 use Rattle.std.specs.FinMap.{get, insert}
 use Rattle.seq_object.specs.Object.{shard_of, Pairs}
-use Rattle.seq_object.specs.Sizes.{Sizes}
 use Rattle.room_model.specs.declared.write.Write.{Write}
 use Rattle.room_model.specs.Chains.{IsChain, times, is_node, with_word, RoomWords}
 use Rattle.room_model.specs.Writes.{write, written, taken_line, is_full, take_write, put_absent}
-use Rattle.room_model.specs.MapRoom.{MapLayout, IsMapLayout, head, bucket_of, found, IsMapRoom}
+use Rattle.room_model.specs.MapRoom.{Layout, IsLayout, head, bucket_of, found, IsMapRoom}
 use Rattle.room_laws.proofs.Lists.{other_than, chain_same}
 use Rattle.room_laws.proofs.Totals.{total-part, one_where}
 use Rattle.room_laws.proofs.Stock.{IsTaken, TakesLine, take_written, take, free_after, fresh_after}
 use Rattle.seq_object.proofs.Pairs.{got_put}
 use Rattle.room_laws.proofs.Keys.{joined, times-joined, found-here, found-there, found-same, found-still_none, keys-same}
 use Rattle.room_laws.proofs.Maps.{bucket_below, stock_of, chain_node, get_found, changed, not_key}
+use Rattle.seq_object.specs.declared.sizes.Sizes.{Sizes}
 
 -- a pair is put at the front of its bucket, in line n
-pub record PutsFront (layout : MapLayout) (b n key value : ℕ) (r r' : RoomWords) : Type 0 where
+pub record PutsFront (layout : Layout) (b n key value : ℕ) (r r' : RoomWords) : Type 0 where
   pub free : r' 0 0 ≡ free_after r
   pub fresh : r' 0 1 ≡ fresh_after r
   pub count : r' 0 2 ≡ r 0 2 + 1
@@ -32,7 +32,7 @@ abbrev pub front_writes : ℕ → ℕ → ℕ → ℕ → ℕ → ℕ → ℕ �
 front_writes n key value next line word count = write n 0 key ∷ write n 1 value ∷ write n 2 next ∷ write line word n ∷ write 0 2 count ∷ []
 
 -- the place of a head against another
-head_apart : (layout : MapLayout) → IsMapLayout layout → (b c : ℕ) → b < 8 → c < 8 → c ≢ b → layout.head_line c ≡ layout.head_line b → layout.head_word c ≢ layout.head_word b
+head_apart : (layout : Layout) → IsLayout layout → (b c : ℕ) → b < 8 → c < 8 → c ≢ b → layout.head_line c ≡ layout.head_line b → layout.head_word c ≢ layout.head_word b
 head_apart layout laid b c lt lu ne same e = ne (laid.apart c b lu lt same e)
 
 -- where each word is after these writes, of which the head's place is apart from the header and the nodes
@@ -60,7 +60,7 @@ front_written n key value next line word count first q pos below low = record {
 }
 
 -- what the writes of a put of an absent key change
-pub puts_front : (layout : MapLayout) (z : Sizes) (key value : ℕ) (r : RoomWords) → IsMapLayout layout → layout.first ≤ taken_line r
+pub puts_front : (layout : Layout) (z : Sizes) (key value : ℕ) (r : RoomWords) → IsLayout layout → layout.first ≤ taken_line r
     → PutsFront layout (bucket_of z key) (taken_line r) key value r (written r (put_absent layout z r key value))
 puts_front layout z key value r laid low =
     let b = bucket_of z key in
@@ -85,8 +85,8 @@ puts_front layout z key value r laid low =
     }
 
 -- a pair at the front of its bucket joins the map
-pub put_absent_room : (layout : MapLayout) (z : Sizes) (shard key value : ℕ) (r r' : RoomWords) (pairs : Pairs) → IsMapLayout layout → IsMapRoom layout z shard r pairs
-    → shard_of z key ≡ shard → get pairs key ≡ None → is_full z r ≡ false → PutsFront layout (bucket_of z key) (taken_line r) key value r r' → IsMapRoom layout z shard r' (insert pairs key value)
+pub put_absent_room : (layout : Layout) (z : Sizes) (shard key value : ℕ) (r r' : RoomWords) (pairs : Pairs) → IsLayout layout → IsMapRoom layout z shard r pairs
+    → shard_of z key ≡ shard → get pairs key ≡ None → is_full z.lines r ≡ false → PutsFront layout (bucket_of z key) (taken_line r) key value r r' → IsMapRoom layout z shard r' (insert pairs key value)
 put_absent_room layout z shard key value r r' pairs laid room mine absent space put =
     let n = taken_line r in
     let b = bucket_of z key in

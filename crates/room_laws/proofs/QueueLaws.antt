@@ -6,16 +6,16 @@ use Rattle.std.proofs.lemmas.Bool.{ne_eqb}
 use Rattle.std.proofs.lemmas.List.{length-map}
 use Rattle.seq_object.specs.declared.command.Reply.TheVariants.{Full, Done, Found, Empty}
 use Rattle.seq_object.specs.Object.{is_queue_full, enq_reply, deq_reply, take_reply, rest_of}
-use Rattle.seq_object.specs.Sizes.{Sizes}
 use Rattle.room_model.specs.Chains.{IsChain, RoomWords}
 use Rattle.room_model.specs.Writes.{written, is_full, enq_room, deq_item, deq_writes, enq_writes}
 use Rattle.room_model.specs.QueueRoom.{IsQueueRoom}
-use Rattle.room_laws.specs.Walks.{items_from}
+use Rattle.room_model.specs.Walks.{items_from}
 use Rattle.room_laws.specs.QueueRows.{EnqLaw, QueueFullLaw, DeqLaw, DeqEmptyLaw}
 use Rattle.room_laws.specs.Rooms.{QueueItemsLaw}
 use Rattle.room_laws.proofs.Stock.{full_tells, stock_size}
 use Rattle.room_laws.proofs.Tests.{by_test, by_Bool}
 use Rattle.room_laws.proofs.Queues.{stock_of_queue, enq_puts_last, enq_room_law, has_first, takes_first, deq_item_law, no_first}
+use Rattle.seq_object.specs.declared.sizes.Sizes.{Sizes}
 
 -- the law on an item at the back
 pub enq_law : EnqLaw
@@ -48,8 +48,8 @@ deq_empty_law z r items room none = no_first z r items room none
 pub enq_after : (z : Sizes) (r : RoomWords) (items : List ℕ) (value : ℕ) → IsQueueRoom z r items
     → IsQueueRoom z (written r (enq_writes z r value)) (if is_queue_full z items then items else items ++ value ∷ [])
 enq_after z r items value room =
-    subst (λ (b : Bool). IsQueueRoom z (written r (if is_full z r then [] else enq_room r value)) (if b then items else items ++ value ∷ [])) (queue_full_law z r items room)
-    (by_Bool (λ b. IsQueueRoom z (written r (if b then [] else enq_room r value)) (if b then items else items ++ value ∷ [])) (is_full z r) (λ full. room) (λ space. enq_law z r items value room space))
+    subst (λ (b : Bool). IsQueueRoom z (written r (if is_full z.lines r then [] else enq_room r value)) (if b then items else items ++ value ∷ [])) (queue_full_law z r items room)
+    (by_Bool (λ b. IsQueueRoom z (written r (if b then [] else enq_room r value)) (if b then items else items ++ value ∷ [])) (is_full z.lines r) (λ full. room) (λ space. enq_law z r items value room space))
 
 -- the front item taken off, on all rows
 pub deq_after : (z : Sizes) (r : RoomWords) (items : List ℕ) → IsQueueRoom z r items → IsQueueRoom z (written r (deq_writes r)) (rest_of items)
@@ -64,8 +64,8 @@ back_reply true = refl
 back_reply false = refl
 
 -- the answer to an item at the back is the reply
-pub enq_answer : (z : Sizes) (r : RoomWords) (items : List ℕ) → IsQueueRoom z r items → Some (if is_full z r then Full else Done) ≡ Some (enq_reply (is_queue_full z items))
-enq_answer z r items room = ap Some (back_reply (is_full z r) ∙ ap enq_reply (queue_full_law z r items room))
+pub enq_answer : (z : Sizes) (r : RoomWords) (items : List ℕ) → IsQueueRoom z r items → Some (if is_full z.lines r then Full else Done) ≡ Some (enq_reply (is_queue_full z items))
+enq_answer z r items room = ap Some (back_reply (is_full z.lines r) ∙ ap enq_reply (queue_full_law z r items room))
 
 -- the answer to taking the front item off is the reply
 pub deq_answer : (z : Sizes) (r : RoomWords) (items : List ℕ) → IsQueueRoom z r items → Some (if r 1 0 == 0 then Empty else Found (r (r 1 0) 0)) ≡ Some (deq_reply items)

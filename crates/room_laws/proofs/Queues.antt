@@ -3,7 +3,6 @@ use Rattle.std.proofs.Common.{◌≡◌, ℕ, ◌+◌, ◌-◌, ◌<◌, ◌≤�
 use Rattle.std.proofs.lemmas.Bool.Decides.{eqb_tells, nat_tests}
 use Rattle.std.proofs.lemmas.List.{map-append}
 use Rattle.seq_object.specs.Object.{rest_of}
-use Rattle.seq_object.specs.Sizes.{Sizes}
 use Rattle.room_model.specs.declared.write.Write.{Write}
 use Rattle.room_model.specs.Chains.{IsChain, times, is_node, with_word, RoomWords}
 use Rattle.room_model.specs.Writes.{write, written, taken_line, is_full, take_write, give_writes, enq_room, deq_item}
@@ -12,6 +11,7 @@ use Rattle.room_laws.proofs.Totals.{one_where}
 use Rattle.room_laws.proofs.Lists.{times-append, times-here, other_than, chain_one, chain_same, chain_more, last_line-more}
 use Rattle.room_laws.proofs.Stock.{IsStock, IsTaken, TakesLine, take_written, take, free_after, fresh_after, held_node, free_node, at_most_one}
 use Rattle.room_laws.proofs.Dels.{last_in}
+use Rattle.seq_object.specs.declared.sizes.Sizes.{Sizes}
 
 -- the room's lines as held and free ones
 pub stock_of_queue : (z : Sizes) (r : RoomWords) (items : List ℕ) (room : IsQueueRoom z r items) → IsStock 2 z room.chain room.free r
@@ -118,11 +118,11 @@ last_node z r items room n out some = go room.chain room.chained room.last (held
         ((node (r 1 1) in_chain).0, other_than n (r 1 1) (x ∷ xs) out in_chain)
 
 -- the line that the queue room takes
-pub enq_taken : (z : Sizes) (r : RoomWords) (items : List ℕ) (room : IsQueueRoom z r items) → is_full z r ≡ false → IsTaken 2 z room.chain r (taken_line r) (fresh_after r) (free_after r)
+pub enq_taken : (z : Sizes) (r : RoomWords) (items : List ℕ) (room : IsQueueRoom z r items) → is_full z.lines r ≡ false → IsTaken 2 z room.chain r (taken_line r) (fresh_after r) (free_after r)
 enq_taken z r items room space = take 2 z room.chain room.free r (stock_of_queue z r items room) space
 
 -- what the writes of an item at the back change, in a queue room
-pub enq_puts_last : (z : Sizes) (r : RoomWords) (items : List ℕ) (value : ℕ) (room : IsQueueRoom z r items) → is_full z r ≡ false → PutsLast (taken_line r) value r (written r (enq_room r value))
+pub enq_puts_last : (z : Sizes) (r : RoomWords) (items : List ℕ) (value : ℕ) (room : IsQueueRoom z r items) → is_full z.lines r ≡ false → PutsLast (taken_line r) value r (written r (enq_room r value))
 enq_puts_last z r items value room space =
     let taken = enq_taken z r items room space in
     puts_last value r taken.line_low (last_node z r items room (taken_line r) taken.held_apart)
@@ -141,7 +141,7 @@ chain_with n value r r' (x ∷ xs) put some out far once last h =
     subst (λ (s : ℕ). IsChain (λ y. r' y 1) s ((x ∷ xs) ++ n ∷ [])) (sym (put.first_same begins)) more
 
 -- a room with a value behind the last stands for the items with it at the back
-pub enq_room_law : (z : Sizes) (r r' : RoomWords) (items : List ℕ) (value : ℕ) → IsQueueRoom z r items → is_full z r ≡ false → PutsLast (taken_line r) value r r' → IsQueueRoom z r' (items ++ value ∷ [])
+pub enq_room_law : (z : Sizes) (r r' : RoomWords) (items : List ℕ) (value : ℕ) → IsQueueRoom z r items → is_full z.lines r ≡ false → PutsLast (taken_line r) value r r' → IsQueueRoom z r' (items ++ value ∷ [])
 enq_room_law z r r' items value room space put =
     let n = taken_line r in
     let taken = enq_taken z r items room space in

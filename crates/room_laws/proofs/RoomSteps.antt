@@ -3,7 +3,7 @@ use Rattle.std.proofs.Common.{◌≡◌, ℕ, sym, ap, ◌∙◌, subst}
 use Rattle.seq_object.specs.Object.{Contents, contents_after, part_of}
 use Rattle.seq_object.proofs.Rooms.{own_room}
 use Rattle.room_model.specs.Writes.{written, writes_of}
-use Rattle.room_laws.specs.Walks.{contents_of}
+use Rattle.room_model.specs.Walks.{contents_of}
 use Rattle.room_laws.specs.Commands.{RoomStepLaw}
 use Rattle.room_laws.proofs.OneContents.{contents, stands_itself}
 use Rattle.room_laws.proofs.AllRows.{command_after}

@@ -2,9 +2,9 @@
 use Rattle.std.proofs.Common.{◌≡◌, ◌≢◌, ℕ, ◌==◌, Bool, cond, Option, None, refl, eq-eqb}
 use Rattle.std.proofs.lemmas.Bool.{ne_eqb}
 use Rattle.std.specs.FinMap.{get, remove}
-use Rattle.seq_object.specs.Sizes.{Sizes}
 use Rattle.seq_object.specs.Object.{Pairs, shard_of, shard_pairs, put_pairs}
 use Rattle.seq_object.proofs.Pairs.{got_kept, got_key, kept_twice, kept_put_pairs, lost_put_pairs, kept_removed, lost_removed}
+use Rattle.seq_object.specs.declared.sizes.Sizes.{Sizes}
 
 -- what a shard's pairs have at a key
 pub get_shard : (z : Sizes) (shard : ℕ) (pairs : Pairs) (q : ℕ) → get (shard_pairs z shard pairs) q ≡ cond (shard_of z q == shard) (get pairs q) None

@@ -2,12 +2,12 @@
 use Rattle.std.proofs.Common.{◌≡◌, ℕ, ◌+◌, ◌<◌, ◌≤◌, ◌≢◌, ◌==◌, ◌&&◌, Bool, true, false, List, [], ◌∷◌, ◌++◌, length, arith, refl, ap, sym, ◌∙◌, subst, inl, inr, if◌then◌else◌, length-append}
 use Rattle.std.proofs.lemmas.Bool.Decides.{eqb_tells, nat_tests}
 use Rattle.std.proofs.lemmas.Bool.{ne_eqb, eqb-true, eqb-false}
-use Rattle.seq_object.specs.Sizes.{Sizes}
 use Rattle.room_model.specs.Chains.{IsChain, times, is_node, with_word, RoomWords}
 use Rattle.room_model.specs.Writes.{taken_line, is_full, take_write}
 use Rattle.seq_object.proofs.Totals.{total-same}
 use Rattle.room_laws.proofs.Totals.{total-nodes, one_where}
 use Rattle.room_laws.proofs.Lists.{times-append, times-here, length-by_times, chain_one}
+use Rattle.seq_object.specs.declared.sizes.Sizes.{Sizes}
 
 -- each line from first to fresh - 1 is held or free, once
 pub record IsStock (first : ℕ) (z : Sizes) (held free : List ℕ) (r : RoomWords) : Type 0 where
@@ -102,7 +102,7 @@ from_free first z held (n ∷ rest) r stock some =
     subst (λ (k : ℕ). IsTaken first z held r k (r 0 1) (r k 0)) (sym is) taken
 
 -- the line that is taken is in no list
-pub take : (first : ℕ) (z : Sizes) (held free : List ℕ) (r : RoomWords) → IsStock first z held free r → is_full z r ≡ false → IsTaken first z held r (taken_line r) (fresh_after r) (free_after r)
+pub take : (first : ℕ) (z : Sizes) (held free : List ℕ) (r : RoomWords) → IsStock first z held free r → is_full z.lines r ≡ false → IsTaken first z held r (taken_line r) (fresh_after r) (free_after r)
 take first z held free r stock room = go (r 0 0 == 0) refl
   where
     go : (b : Bool) → b ≡ (r 0 0 == 0) → IsTaken first z held r (if b then r 0 1 else r 0 0) (if b then r 0 1 + 1 else r 0 1) (if b then r 0 0 else r (r 0 0) 0)
@@ -123,7 +123,7 @@ stock_size first z held free r stock =
     omega (arith, counted, nodes, all, parts)
 
 -- full, exactly by the count of what is held
-pub full_tells : (first : ℕ) (z : Sizes) (held free : List ℕ) (r : RoomWords) → IsStock first z held free r → is_full z r ≡ (length held + first == z.lines)
+pub full_tells : (first : ℕ) (z : Sizes) (held free : List ℕ) (r : RoomWords) → IsStock first z held free r → is_full z.lines r ≡ (length held + first == z.lines)
 full_tells first z held free r stock =
     let size = stock_size first z held free r stock in
     elim (eqb_tells (r 0 0) 0) [

@@ -2,12 +2,11 @@
 use Rattle.std.proofs.Common.{◌≡◌, ℕ, ◌+◌, ◌<◌, ◌≤◌, ◌≢◌, zero, suc, List, [], ◌∷◌, length, arith, ap, sym, ◌∙◌, subst, inl, inr, length-append}
 use Rattle.std.proofs.lemmas.Bool.Decides.{eqb_tells}
 use Rattle.std.specs.FinMap.{len}
-use Rattle.seq_object.specs.Sizes.{Sizes}
 use Rattle.room_model.specs.Chains.{IsChain, times, RoomWords}
 use Rattle.room_model.specs.Writes.{taken_line, node_of, node_before}
 use Rattle.room_model.specs.MapRoom.{head, bucket_of}
 use Rattle.room_model.specs.QueueRoom.{last_line}
-use Rattle.room_laws.specs.Walks.{IsWalk}
+use Rattle.room_model.specs.Walks.{IsWalk}
 use Rattle.room_laws.specs.Stocks.{MapTakeLaw, QueueTakeLaw, HeaderSays, MapHeaderLaw, QueueHeaderLaw, WalkLaw, MapBoundsLaw, QueueBoundsLaw}
 use Rattle.room_laws.proofs.Totals.{total-part}
 use Rattle.room_laws.proofs.Lists.{times-append, times-here}
@@ -18,6 +17,7 @@ use Rattle.room_laws.proofs.Queues.{stock_of_queue, enq_taken, has_first}
 use Rattle.room_laws.proofs.QueueLaws.{items_length}
 use Rattle.room_laws.proofs.MapLaws.{key_node, node_there, before_there}
 use Rattle.room_laws.proofs.Dels.{last_in}
+use Rattle.seq_object.specs.declared.sizes.Sizes.{Sizes}
 
 -- the law on the line that a map room takes
 pub map_take_law : MapTakeLaw
@@ -67,9 +67,8 @@ queue_header_law z r items room = header_says 2 z (length items) room.chain room
 -- the words that name lines name lines of the room
 pub queue_bounds_law : QueueBoundsLaw
 queue_bounds_law z r items room = record {
+  header = record { free = by_zero (r 0 0) (λ some. (header.free_low some)) (λ some. header.free_high some); fresh = room.high };
   two = let l = room.low in let h = room.high in omega (arith, l, h);
-  free = by_zero (r 0 0) (λ some. (header.free_low some)) (λ some. header.free_high some);
-  fresh = room.high;
   first = by_zero (r 1 0) (λ some. (has_first z r items room some).low) (λ some. (has_first z r items room some).high);
   last = last_fits room.chain room.last (λ x t. (held_node 2 z room.chain room.free r (stock_of_queue z r items room) x t).1);
   count = let a = header.count in let b = header.held_fits in let c = header.fresh_fits in omega (arith, a, b, c);
@@ -103,8 +102,7 @@ map_bounds_law layout z shard r pairs key laid room =
     let count = header.count in
     let fits = header.held_fits in
     record {
-      free = or_zero (r 0 0) (omega (arith, first, low, high)) (λ some. let f = header.free_high some in omega (arith, f, high));
-      fresh = high;
+      header = record { free = or_zero (r 0 0) (omega (arith, first, low, high)) (λ some. let f = header.free_high some in omega (arith, f, high)); fresh = high };
       count = omega (arith, count, fits, high);
       head = omega (arith, first, low, high);
       node = or_zero (node_of layout z r key) (omega (arith, first, low, high)) (λ some. let n = (node_there layout z shard r pairs key laid room some).1 in omega (arith, n, high));

@@ -3,16 +3,16 @@ use Rattle.std.proofs.Common.{◌≡◌, ℕ, ◌+◌, ◌<◌, ◌≤◌, ◌�
 use Rattle.std.proofs.lemmas.Bool.Decides.{eqb_tells, nat_tests}
 use Rattle.std.specs.FinMap.{get, insert}
 use Rattle.seq_object.specs.Object.{shard_of, Pairs}
-use Rattle.seq_object.specs.Sizes.{Sizes}
 use Rattle.room_model.specs.Chains.{IsChain, times, is_node, RoomWords}
 use Rattle.room_model.specs.Writes.{written, put_present}
-use Rattle.room_model.specs.MapRoom.{MapLayout, IsMapLayout, head, bucket_of, found, AreKeys, IsMapRoom}
+use Rattle.room_model.specs.MapRoom.{Layout, IsLayout, head, bucket_of, found, AreKeys, IsMapRoom}
 use Rattle.room_laws.proofs.Lists.{times-append, times-here, other_than, chain_same}
 use Rattle.room_laws.proofs.Totals.{one_where}
 use Rattle.seq_object.proofs.Pairs.{got_put}
 use Rattle.room_laws.proofs.Keys.{found-here, found-append, found-same, found-still_none, keys-same, found-cut, or_else}
 use Rattle.room_laws.proofs.Walks.{IsLocated}
 use Rattle.room_laws.proofs.Maps.{bucket_below, chain_node, chain_once, chain_apart, get_found, changed, not_key}
+use Rattle.seq_object.specs.declared.sizes.Sizes.{Sizes}
 
 -- line n has a new value
 pub record SetsValue (n value : ℕ) (r r' : RoomWords) : Type 0 where
@@ -24,13 +24,13 @@ pub sets_value : (n value : ℕ) (r : RoomWords) → SetsValue n value r (writte
 sets_value n value r = record { value_of = grind (arith, nat_tests); others = λ x w ne. grind (arith, nat_tests) }
 
 -- where the node of a key stands
-pub record IsPlaced (layout : MapLayout) (z : Sizes) (shard : ℕ) (r : RoomWords) (pairs : Pairs) (room : IsMapRoom layout z shard r pairs) (b n : ℕ) (front back : List ℕ) : Type 0 where
+pub record IsPlaced (layout : Layout) (z : Sizes) (shard : ℕ) (r : RoomWords) (pairs : Pairs) (room : IsMapRoom layout z shard r pairs) (b n : ℕ) (front back : List ℕ) : Type 0 where
   pub low : layout.first ≤ n
   pub out : times n (front ++ back) ≡ 0
   pub away : (c : ℕ) → c < 8 → c ≢ b → times n (room.chain c) ≡ 0
 
 -- where the node of a key stands in its room
-pub placed : (layout : MapLayout) (z : Sizes) (shard : ℕ) (r : RoomWords) (pairs : Pairs) (room : IsMapRoom layout z shard r pairs) (b n : ℕ) (front back : List ℕ) → b < 8 → room.chain b ≡ front ++ n ∷ back
+pub placed : (layout : Layout) (z : Sizes) (shard : ℕ) (r : RoomWords) (pairs : Pairs) (room : IsMapRoom layout z shard r pairs) (b n : ℕ) (front back : List ℕ) → b < 8 → room.chain b ≡ front ++ n ∷ back
     → IsPlaced layout z shard r pairs room b n front back
 placed layout z shard r pairs room b n front back below is =
     let in_chain : times n (room.chain b) ≡ times n front + (1 + times n back) = ap (times n) is ∙ times-append n front (n ∷ back) ∙ ap (λ (k : ℕ). times n front + k) (times-here n back) in
@@ -43,7 +43,7 @@ placed layout z shard r pairs room b n front back below is =
     }
 
 -- a room whose node has a new value stands for the pairs with that value
-pub put_present_room : (layout : MapLayout) (z : Sizes) (shard key value start n before : ℕ) (r r' : RoomWords) (pairs : Pairs) → IsMapLayout layout → (room : IsMapRoom layout z shard r pairs)
+pub put_present_room : (layout : Layout) (z : Sizes) (shard key value start n before : ℕ) (r r' : RoomWords) (pairs : Pairs) → IsLayout layout → (room : IsMapRoom layout z shard r pairs)
     → shard_of z key ≡ shard → IsLocated r key (room.chain (bucket_of z key)) start n before → SetsValue n value r r' → IsMapRoom layout z shard r' (insert pairs key value)
 put_present_room layout z shard key value start n before r r' pairs laid room mine at sets =
     let b = bucket_of z key in

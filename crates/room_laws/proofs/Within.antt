@@ -1,12 +1,10 @@
 -- The writes of a command go to record words of lines of its room.
 use Rattle.std.proofs.Common.{◌≡◌, ℕ, ◌+◌, ◌-◌, ◌<◌, ◌≢◌, ◌==◌, false, List, [], ◌∷◌, ◌++◌, arith, ap, if◌then◌else◌}
 use Rattle.seq_object.specs.Object.{Pairs}
-use Rattle.seq_object.specs.Sizes.{Sizes}
 use Rattle.room_model.specs.Chains.{IsChain, times, RoomWords}
-use Rattle.room_model.specs.Writes.{write, taken_line, is_full, take_write, give_writes, link_writes, unlink_write, node_of, node_before, put_absent, put_present, del_present, enq_room, deq_item, deq_writes, put_writes, del_writes, enq_writes}
-use Rattle.room_model.specs.MapRoom.{MapLayout, IsMapLayout, bucket_of, IsMapRoom}
+use Rattle.room_model.specs.Writes.{write, taken_line, is_full, take_write, give_writes, link_writes, unlink_write, node_of, node_before, put_absent, put_present, del_present, enq_room, deq_item, deq_writes, put_writes, del_writes, enq_writes, AreWithin}
+use Rattle.room_model.specs.MapRoom.{Layout, IsLayout, bucket_of, IsMapRoom}
 use Rattle.room_model.specs.QueueRoom.{last_line, IsQueueRoom}
-use Rattle.room_laws.specs.Rooms.{AreWithin}
 use Rattle.room_laws.specs.Stocks.{IsNodeLine}
 use Rattle.room_laws.proofs.Lists.{times-append}
 use Rattle.room_laws.proofs.Stock.{held_node}
@@ -16,19 +14,20 @@ use Rattle.room_laws.proofs.MapLaws.{node_there, before_there}
 use Rattle.room_laws.proofs.Dels.{last_in}
 use Rattle.room_laws.proofs.StockLaws.{map_take_law, queue_take_law}
 use Rattle.room_laws.proofs.Tests.{by_test, by_Bool}
+use Rattle.seq_object.specs.declared.sizes.Sizes.{Sizes}
 
 -- the write that takes a line is one of the header
 take_within : (z : Sizes) (r : RoomWords) → 0 < z.lines → ((take_write r).line < z.lines) × ((take_write r).word < 3)
 take_within z r pos = by_Bool (λ b. ((if b then write 0 1 (r 0 1 + 1) else write 0 0 (r (r 0 0) 0)).line < z.lines) × ((if b then write 0 1 (r 0 1 + 1) else write 0 0 (r (r 0 0) 0)).word < 3)) (r 0 0 == 0) (λ e. (pos, omega arith)) (λ e. (pos, omega arith))
 
 -- a put
-pub put_within : (layout : MapLayout) (z : Sizes) (shard : ℕ) (r : RoomWords) (pairs : Pairs) (key value : ℕ) → IsMapLayout layout → IsMapRoom layout z shard r pairs → AreWithin z.lines (put_writes layout z r key value)
+pub put_within : (layout : Layout) (z : Sizes) (shard : ℕ) (r : RoomWords) (pairs : Pairs) (key value : ℕ) → IsLayout layout → IsMapRoom layout z shard r pairs → AreWithin z.lines (put_writes layout z r key value)
 put_within layout z shard r pairs key value laid room =
-    by_test (λ b. AreWithin z.lines (if b then (if is_full z r then [] else put_absent layout z r key value) else put_present (node_of layout z r key) value)) (node_of layout z r key) 0
-    (λ none. by_Bool (λ b. AreWithin z.lines (if b then [] else put_absent layout z r key value)) (is_full z r) (λ full. tt) (λ space. absent_within space))
+    by_test (λ b. AreWithin z.lines (if b then (if is_full z.lines r then [] else put_absent layout z r key value) else put_present (node_of layout z r key) value)) (node_of layout z r key) 0
+    (λ none. by_Bool (λ b. AreWithin z.lines (if b then [] else put_absent layout z r key value)) (is_full z.lines r) (λ full. tt) (λ space. absent_within space))
     (λ some. let n = (node_there layout z shard r pairs key laid room some).1 in let high = room.high in (omega (arith, n, high), omega arith, tt))
   where
-    absent_within : is_full z r ≡ false → AreWithin z.lines (put_absent layout z r key value)
+    absent_within : is_full z.lines r ≡ false → AreWithin z.lines (put_absent layout z r key value)
     absent_within space =
         let b = bucket_of z key in
         let below = bucket_below z key in
@@ -41,7 +40,7 @@ put_within layout z shard r pairs key value laid room =
         (header.0, header.1, (high, omega arith, (high, omega arith, (high, omega arith, (omega (arith, first, low, high), laid.word b below, (omega (arith, high), omega arith, tt))))))
 
 -- a removal
-pub del_within : (layout : MapLayout) (z : Sizes) (shard : ℕ) (r : RoomWords) (pairs : Pairs) (key : ℕ) → IsMapLayout layout → IsMapRoom layout z shard r pairs → AreWithin z.lines (del_writes layout z r key)
+pub del_within : (layout : Layout) (z : Sizes) (shard : ℕ) (r : RoomWords) (pairs : Pairs) (key : ℕ) → IsLayout layout → IsMapRoom layout z shard r pairs → AreWithin z.lines (del_writes layout z r key)
 del_within layout z shard r pairs key laid room =
     by_test (λ b. AreWithin z.lines (if b then [] else del_present layout r (bucket_of z key) (node_before layout z r key) (node_of layout z r key))) (node_of layout z r key) 0 (λ none. tt)
     (λ some. let n = (node_there layout z shard r pairs key laid room some).1 in let high = room.high in let u = unlink_within some in
@@ -62,7 +61,7 @@ del_within layout z shard r pairs key laid room =
         (λ there. let p = (before_there layout z shard r pairs key laid room some there).1 in (omega (arith, p, high), omega arith))
 
 -- an item at the back
-pub enq_within : (z : Sizes) (r : RoomWords) (items : List ℕ) (value : ℕ) → (room : IsQueueRoom z r items) → is_full z r ≡ false → AreWithin z.lines (enq_room r value)
+pub enq_within : (z : Sizes) (r : RoomWords) (items : List ℕ) (value : ℕ) → (room : IsQueueRoom z r items) → is_full z.lines r ≡ false → AreWithin z.lines (enq_room r value)
 enq_within z r items value room space =
     let taken = queue_take_law z r items room space in
     let node : IsNodeLine 2 z (taken_line r) = taken.0 in
@@ -102,4 +101,4 @@ deq_within z r items room =
 
 -- an item at the back, on all rows
 pub enq_rows_within : (z : Sizes) (r : RoomWords) (items : List ℕ) (value : ℕ) → IsQueueRoom z r items → AreWithin z.lines (enq_writes z r value)
-enq_rows_within z r items value room = by_Bool (λ b. AreWithin z.lines (if b then [] else enq_room r value)) (is_full z r) (λ full. tt) (λ space. enq_within z r items value room space)
+enq_rows_within z r items value room = by_Bool (λ b. AreWithin z.lines (if b then [] else enq_room r value)) (is_full z.lines r) (λ full. tt) (λ space. enq_within z r items value room space)

@@ -3,7 +3,7 @@ use Rattle.std.proofs.Common.{ℕ, ◌==◌, Option, None, arith, ap, sym, ◌�
 use Rattle.seq_object.specs.Object.{shard_of}
 use Rattle.room_model.specs.Chains.{IsChain, is_node}
 use Rattle.room_model.specs.MapRoom.{head, bucket_of}
-use Rattle.room_laws.specs.Rooms.{WordsLaw, MapWordsLaw, QueueWordsLaw}
+use Rattle.room_laws.specs.Rooms.{WordsLaw, MapWordsLaw, QueueWordsLaw, PointWordsLaw}
 use Rattle.room_laws.proofs.Totals.{one_where}
 use Rattle.room_laws.proofs.Lists.{chain_same}
 use Rattle.room_laws.proofs.Keys.{found-same, keys-same}
@@ -47,3 +47,7 @@ queue_words_law z r r' items room same = record {
 pub words : WordsLaw
 words layout z room r r' c laid stands same = by_Bool (λ b. Stands layout z room r c b → Stands layout z room r' c b) (room == z.shards)
     (λ _ q. queue_words_law z r r' c.items q same) (λ _ q. map_words_law layout z room r r' (shard_pairs z room c.pairs) laid q same) stands
+
+-- the restart point of a thread's room rests on the record words alone
+pub point_words : PointWordsLaw
+point_words layout r other same = ap (λ (n : ℕ). record { position = n }) (same 0 0 (omega arith))

@@ -1,4 +1,3 @@
-pub mod Walks
 pub mod MapRows
 pub mod QueueRows
 pub mod Stocks

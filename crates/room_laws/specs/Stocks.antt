@@ -1,14 +1,14 @@
 -- What a room's header says, where a room's lines lie, and where the walk for a key goes.
 use Rattle.std.specs.Prelude.{◌≡◌, ◌≢◌, ℕ, ◌+◌, ◌<◌, ◌≤◌, false, if◌then◌else◌, ◌==◌, List, length}
 use Rattle.std.specs.FinMap.{len}
-use Rattle.seq_object.specs.Sizes.{Sizes}
 use Rattle.seq_object.specs.Object.{Pairs}
 use Rattle.seq_object.specs.History.{total}
 use Rattle.room_model.specs.Chains.{RoomWords, times, is_node}
-use Rattle.room_model.specs.MapRoom.{MapLayout, IsMapLayout, head, bucket_of, IsMapRoom}
+use Rattle.room_model.specs.MapRoom.{Layout, IsLayout, head, bucket_of, IsMapRoom}
 use Rattle.room_model.specs.QueueRoom.{IsQueueRoom}
 use Rattle.room_model.specs.Writes.{taken_line, is_full, node_of, node_before}
-use Rattle.room_laws.specs.Walks.{IsWalk}
+use Rattle.room_model.specs.Walks.{IsWalk}
+use Rattle.seq_object.specs.declared.sizes.Sizes.{Sizes}
 
 -- a line of the room for nodes
 pub record IsNodeLine (first : ℕ) (z : Sizes) (line : ℕ) : Type 0 where
@@ -17,12 +17,12 @@ pub record IsNodeLine (first : ℕ) (z : Sizes) (line : ℕ) : Type 0 where
 
 -- the line that a map room takes is one for nodes, and is in no chain
 abbrev pub MapTakeLaw : Type 0
-MapTakeLaw = (layout : MapLayout) (z : Sizes) (shard : ℕ) (r : RoomWords) (pairs : Pairs) → IsMapLayout layout → (room : IsMapRoom layout z shard r pairs) → is_full z r ≡ false
+MapTakeLaw = (layout : Layout) (z : Sizes) (shard : ℕ) (r : RoomWords) (pairs : Pairs) → IsLayout layout → (room : IsMapRoom layout z shard r pairs) → is_full z.lines r ≡ false
     → IsNodeLine layout.first z (taken_line r) × ((b : ℕ) → b < 8 → times (taken_line r) (room.chain b) ≡ 0)
 
 -- the line that the queue room takes is one for nodes, and is not in the chain
 abbrev pub QueueTakeLaw : Type 0
-QueueTakeLaw = (z : Sizes) (r : RoomWords) (items : List ℕ) → (room : IsQueueRoom z r items) → is_full z r ≡ false → IsNodeLine 2 z (taken_line r) × (times (taken_line r) room.chain ≡ 0)
+QueueTakeLaw = (z : Sizes) (r : RoomWords) (items : List ℕ) → (room : IsQueueRoom z r items) → is_full z.lines r ≡ false → IsNodeLine 2 z (taken_line r) × (times (taken_line r) room.chain ≡ 0)
 
 -- what the header of a room says where the room holds this many pairs or items
 pub record HeaderSays (first : ℕ) (z : Sizes) (held : ℕ) (r : RoomWords) : Type 0 where
@@ -34,17 +34,22 @@ pub record HeaderSays (first : ℕ) (z : Sizes) (held : ℕ) (r : RoomWords) : T
 
 -- the header of a map room
 abbrev pub MapHeaderLaw : Type 0
-MapHeaderLaw = (layout : MapLayout) (z : Sizes) (shard : ℕ) (r : RoomWords) (pairs : Pairs) → IsMapLayout layout → IsMapRoom layout z shard r pairs → HeaderSays layout.first z (len pairs) r
+MapHeaderLaw = (layout : Layout) (z : Sizes) (shard : ℕ) (r : RoomWords) (pairs : Pairs) → IsLayout layout → IsMapRoom layout z shard r pairs → HeaderSays layout.first z (len pairs) r
 
 -- the header of the queue room
 abbrev pub QueueHeaderLaw : Type 0
 QueueHeaderLaw = (z : Sizes) (r : RoomWords) (items : List ℕ) → IsQueueRoom z r items → HeaderSays 2 z (length items) r
 
+-- the header of a room of so many lines: the first free line is one of the room, 0 where none is free, and of the lines that were given
+-- out there are no more than the room has
+pub record IsHeader (lines : ℕ) (r : RoomWords) : Type 0 where
+  pub free : r 0 0 < lines
+  pub fresh : r 0 1 ≤ lines
+
 -- the words of the queue room that name lines, and its count
 pub record QueueBounds (z : Sizes) (r : RoomWords) : Type 0 where
+  pub header : IsHeader z.lines r
   pub two : 2 ≤ z.lines
-  pub free : r 0 0 < z.lines
-  pub fresh : r 0 1 ≤ z.lines
   pub first : r 1 0 < z.lines
   pub last : r 1 1 < z.lines
   pub count : r 0 2 + 2 ≤ z.lines
@@ -55,9 +60,8 @@ abbrev pub QueueBoundsLaw : Type 0
 QueueBoundsLaw = (z : Sizes) (r : RoomWords) (items : List ℕ) → IsQueueRoom z r items → QueueBounds z r
 
 -- what a key of a map room leads to: its head and its node lie in the room, as does the node before it, and a room with a node counts it
-pub record MapBounds (layout : MapLayout) (z : Sizes) (r : RoomWords) (key : ℕ) : Type 0 where
-  pub free : r 0 0 < z.lines
-  pub fresh : r 0 1 ≤ z.lines
+pub record MapBounds (layout : Layout) (z : Sizes) (r : RoomWords) (key : ℕ) : Type 0 where
+  pub header : IsHeader z.lines r
   pub count : r 0 2 + layout.first ≤ z.lines
   pub head : layout.head_line (bucket_of z key) < z.lines
   pub node : node_of layout z r key < z.lines
@@ -66,11 +70,11 @@ pub record MapBounds (layout : MapLayout) (z : Sizes) (r : RoomWords) (key : ℕ
 
 -- all that a key leads to lies in the room
 abbrev pub MapBoundsLaw : Type 0
-MapBoundsLaw = (layout : MapLayout) (z : Sizes) (shard : ℕ) (r : RoomWords) (pairs : Pairs) (key : ℕ) → IsMapLayout layout → IsMapRoom layout z shard r pairs → MapBounds layout z r key
+MapBoundsLaw = (layout : Layout) (z : Sizes) (shard : ℕ) (r : RoomWords) (pairs : Pairs) (key : ℕ) → IsLayout layout → IsMapRoom layout z shard r pairs → MapBounds layout z r key
 
 -- the walk for a key stays in the room, and ends
 abbrev pub WalkLaw : Type 0
-WalkLaw = (layout : MapLayout) (z : Sizes) (shard : ℕ) (r : RoomWords) (pairs : Pairs) (key : ℕ) → IsMapLayout layout → IsMapRoom layout z shard r pairs → IsWalk r z.lines z.lines (head layout r (bucket_of z key))
+WalkLaw = (layout : Layout) (z : Sizes) (shard : ℕ) (r : RoomWords) (pairs : Pairs) (key : ℕ) → IsLayout layout → IsMapRoom layout z shard r pairs → IsWalk r z.lines z.lines (head layout r (bucket_of z key))
 
 -- no line stands twice in a list or in two of these lists, each is one that was given out, and each that was given out is in a list
 pub record AreApart (first fresh : ℕ) (lists : ℕ → List ℕ) (n : ℕ) : Type 0 where
@@ -96,7 +100,7 @@ queue_lists chain free k = if k == 1 then free else chain
 
 -- the chains and the free lines of a map room are apart
 abbrev pub MapChainsLaw : Type 0
-MapChainsLaw = (layout : MapLayout) (z : Sizes) (shard : ℕ) (r : RoomWords) (pairs : Pairs) (room : IsMapRoom layout z shard r pairs) → AreApart layout.first (r 0 1) (map_lists room.chain room.free) 9
+MapChainsLaw = (layout : Layout) (z : Sizes) (shard : ℕ) (r : RoomWords) (pairs : Pairs) (room : IsMapRoom layout z shard r pairs) → AreApart layout.first (r 0 1) (map_lists room.chain room.free) 9
 
 -- the chain and the free lines of the queue room are apart
 abbrev pub QueueChainsLaw : Type 0

@@ -1,38 +1,26 @@
 -- From writes to the stores that carry them out: what the record words are behind planned stores, where the stores go, and how many
 -- there are.
-use Rattle.std.specs.Prelude.{◌≡◌, ℕ, ◌<◌, ◌≤◌, List, [], ◌∷◌, ◌++◌, length}
+use Rattle.std.specs.Prelude.{◌≡◌, ℕ, ◌<◌, ◌≤◌, List, ◌++◌, length}
 use Rattle.seq_object.specs.declared.command.Command.{Command}
 use Rattle.seq_object.specs.declared.command.Command.TheVariants.{Put, Get, Del, Enq, Deq, Take}
-use Rattle.seq_object.specs.Sizes.{Sizes}
 use Rattle.seq_object.specs.Object.{Contents, contents_after}
 use Rattle.room_model.specs.declared.write.Write.{Write}
 use Rattle.room_model.specs.declared.write.PlannedStore.{PlannedStore}
-use Rattle.room_model.specs.Chains.{RoomWords, with_word}
-use Rattle.room_model.specs.MapRoom.{MapLayout, IsMapLayout}
+use Rattle.room_model.specs.Chains.{RoomWords, with_word, HasSameRecords}
+use Rattle.room_model.specs.MapRoom.{Layout, IsLayout, HasCapacity}
 use Rattle.room_model.specs.Rooms.{StandsFor}
-use Rattle.room_model.specs.Writes.{written, stored_in, write_stores, stores_behind, command_stores}
-use Rattle.room_laws.specs.MapRows.{HasCapacity}
-use Rattle.room_laws.specs.Rooms.{HasSameRecords, AreWithin}
-
--- each write is of a record word
-abbrev pub AreRecordWrites : List Write → Type 0
-AreRecordWrites [] = Unit {0}
-AreRecordWrites (x ∷ xs) = (x.word < 3) × AreRecordWrites xs
-
--- each store goes to a word of one of so many lines
-abbrev pub AreStoresWithin : ℕ → List PlannedStore → Type 0
-AreStoresWithin lines [] = Unit {0}
-AreStoresWithin lines (s ∷ ss) = (s.line < lines) × (s.word < 8) × AreStoresWithin lines ss
+use Rattle.room_model.specs.Writes.{written, stored_in, write_stores, stores_behind, command_stores, AreWithin, AreStoresWithin}
+use Rattle.seq_object.specs.declared.sizes.Sizes.{Sizes}
 
 -- behind planned stores and those of one more write, the record words are those behind the planned stores with the write's word changed
 abbrev pub PlannedWriteLaw : Type 0
-PlannedWriteLaw = (epoch : ℕ) (r : RoomWords) (before : List PlannedStore) (x : Write) → x.word < 3
-    → HasSameRecords (with_word (stored_in r before) x.line x.word x.value) (stored_in r (before ++ write_stores epoch r before x))
+PlannedWriteLaw = (epoch : ℕ) (r : RoomWords) (before : List PlannedStore) (x : Write)
+    → HasSameRecords (stored_in r (before ++ write_stores epoch r before x)) (with_word (stored_in r before) x.line x.word x.value)
 
 -- behind planned stores and those of more writes, the record words are those behind the planned stores and then the writes
 abbrev pub StoresLaw : Type 0
-StoresLaw = (epoch : ℕ) (r : RoomWords) (before : List PlannedStore) (ws : List Write) → AreRecordWrites ws
-    → HasSameRecords (written (stored_in r before) ws) (stored_in r (stores_behind epoch r before ws))
+StoresLaw = (epoch : ℕ) (r : RoomWords) (before : List PlannedStore) (ws : List Write)
+    → HasSameRecords (stored_in r (stores_behind epoch r before ws)) (written (stored_in r before) ws)
 
 -- writes that are planned in two pieces are planned as one list
 abbrev pub StoresInPiecesLaw : Type 0
@@ -40,8 +28,8 @@ StoresInPiecesLaw = (epoch : ℕ) (r : RoomWords) (before : List PlannedStore) (
 
 -- behind the planned stores of a command, each map room and the queue room stand for what the object holds after the command
 abbrev pub CommandStoresLaw : Type 0
-CommandStoresLaw = (layout : MapLayout) (z : Sizes) (epoch room : ℕ) (r : RoomWords) (c : Contents) (command : Command)
-    → IsMapLayout layout → HasCapacity layout z → 0 < z.shards → StandsFor layout z room r c
+CommandStoresLaw = (layout : Layout) (z : Sizes) (epoch room : ℕ) (r : RoomWords) (c : Contents) (command : Command)
+    → IsLayout layout → HasCapacity layout z → 0 < z.shards → StandsFor layout z room r c
     → StandsFor layout z room (stored_in r (command_stores layout z epoch room r command)) (contents_after z c command)
 
 -- stores of writes that go to record words of these lines go to words of these lines
@@ -51,8 +39,8 @@ StoresWithinLaw = (epoch : ℕ) (r : RoomWords) (lines : ℕ) (before : List Pla
 
 -- the planned stores of a command in a room go to words of the room's lines
 abbrev pub CommandWithinLaw : Type 0
-CommandWithinLaw = (layout : MapLayout) (z : Sizes) (epoch room : ℕ) (r : RoomWords) (c : Contents) (command : Command)
-    → IsMapLayout layout → 0 < z.shards → StandsFor layout z room r c → AreStoresWithin z.lines (command_stores layout z epoch room r command)
+CommandWithinLaw = (layout : Layout) (z : Sizes) (epoch room : ℕ) (r : RoomWords) (c : Contents) (command : Command)
+    → IsLayout layout → 0 < z.shards → StandsFor layout z room r c → AreStoresWithin z.lines (command_stores layout z epoch room r command)
 
 -- the most stores that a command may have
 abbrev pub most_stores : Command → ℕ
@@ -65,4 +53,4 @@ most_stores Take = 17
 
 -- a command has no more stores, in whatever room and epoch
 abbrev pub StoreCountsLaw : Type 0
-StoreCountsLaw = (layout : MapLayout) (z : Sizes) (epoch room : ℕ) (r : RoomWords) (command : Command) → length (command_stores layout z epoch room r command) ≤ most_stores command
+StoreCountsLaw = (layout : Layout) (z : Sizes) (epoch room : ℕ) (r : RoomWords) (command : Command) → length (command_stores layout z epoch room r command) ≤ most_stores command

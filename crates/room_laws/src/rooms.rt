@@ -1,7 +1,7 @@
 //! A room stands for one contents, which is a function of its words, and only record words count. Formatted rooms stand for an object
 //! that holds nothing, and the writes of a room's commands stay within the room.
 
-ghost use Rattle.room_laws.specs.Rooms.{MapWordsLaw, QueueWordsLaw, WordsLaw, MapFormattedLaw, QueueFormattedLaw, FormattedLaw, MapPairsLaw, QueueItemsLaw, ContentsLaw, PartLaw, IsRoomLaw, WithinLaw};
+ghost use Rattle.room_laws.specs.Rooms.{MapWordsLaw, QueueWordsLaw, WordsLaw, MapFormattedLaw, QueueFormattedLaw, FormattedLaw, MapPairsLaw, QueueItemsLaw, ContentsLaw, PartLaw, IsRoomLaw, WithinLaw, PointWordsLaw};
 
 /// What a map room stands for rests on words 0 to 2 of its lines alone.
 pub fn map_words_law()
@@ -16,6 +16,11 @@ pub fn queue_words_law()
 /// What a room stands for rests on words 0 to 2 of its lines alone.
 pub fn words_law()
     ensures { WordsLaw }
+{}
+
+/// The restart point of a thread's room rests on the record words alone.
+pub fn point_words_law()
+    ensures { PointWordsLaw }
 {}
 
 /// A formatted map room stands for no pairs.

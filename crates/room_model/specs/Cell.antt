@@ -1,8 +1,8 @@
 -- A cell is one line: words 0 to 2 are its record, words 3 to 5 the backup of the record, word 6 the tag, an epoch. Word 7 is unused.
 use Rattle.std.specs.Prelude.{◌≡◌, ℕ, ◌≤◌, ◌==◌, List, [], ◌∷◌, length, if◌then◌else◌, slice_index}
-use Rattle.line_memory.specs.Line.{LineState, left}
+use Rattle.line_memory.specs.Line.{LineState, survivor}
 
--- the epoch in which the cell was last written
+-- the epoch in which the cell's backup was last taken
 abbrev pub tag_of : List ℕ → ℕ
 tag_of words = slice_index words 6
 
@@ -26,5 +26,5 @@ pub record IsSafe (epoch : ℕ) (triple words : List ℕ) : Type 0 where
 
 -- whichever of its pending stores the line keeps, it is a cell with a tag of at most the epoch, and its triple there is the one that
 -- memory holds
-abbrev pub IsKept : ℕ → LineState → Type 0
-IsKept epoch l = (k : ℕ) → IsSafe epoch (triple_of epoch l.base) (left l k)
+abbrev pub IsRecoverable : ℕ → LineState → Type 0
+IsRecoverable epoch l = (k : ℕ) → IsSafe epoch (triple_of epoch l.base) (survivor l k)

@@ -1,6 +1,6 @@
--- A room of cells is read as a function: its value at i and w is record word w of line i. Lines are chained: a word of each names the
--- next, and 0 ends the chain, so line 0 is in no chain.
-use Rattle.std.specs.Prelude.{◌≡◌, ◌≢◌, ℕ, ◌+◌, ◌==◌, ◌&&◌, nat_lt, nat_le, Bool, List, [], ◌∷◌, if◌then◌else◌}
+-- A room of cells is read as a function: its value at i and w is word w of line i; a reading by triples has words 0 to 2 alone. Lines are
+-- chained: a word of each names the next, and 0 ends the chain, so line 0 is in no chain.
+use Rattle.std.specs.Prelude.{◌≡◌, ◌≢◌, ℕ, ◌+◌, ◌==◌, ◌&&◌, nat_lt, nat_le, Bool, List, [], ◌∷◌, if◌then◌else◌, ◌<◌}
 
 -- the words of a room, by line and word
 abbrev pub RoomWords : Type 0
@@ -23,3 +23,11 @@ is_node first fresh x = nat_le first x && nat_lt x fresh
 -- a room with one word changed
 abbrev pub with_word : RoomWords → ℕ → ℕ → ℕ → RoomWords
 with_word r line word value = λ i w. if (i == line) && (w == word) then value else r i w
+
+-- two rooms have the same records
+abbrev pub HasSameRecords : RoomWords → RoomWords → Type 0
+HasSameRecords r s = (line w : ℕ) → w < 3 → r line w ≡ s line w
+
+-- two rooms have the same words
+abbrev pub HasSameRoom : RoomWords → RoomWords → Type 0
+HasSameRoom r s = (line w : ℕ) → w < 8 → r line w ≡ s line w

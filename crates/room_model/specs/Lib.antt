@@ -3,6 +3,9 @@ pub mod Chains
 pub mod MapRoom
 pub mod QueueRoom
 pub mod Rooms
+pub mod Walks
 pub mod Writes
 pub mod Formatted
+pub mod Banks
+pub mod EpochLine
 pub mod Image

@@ -1,8 +1,8 @@
 -- The queue room stands for a list. Line 0 is the header (free, fresh, count), line 1 the ends (first, last, 0), and from line 2 on come
 -- the nodes (value, next, 0), all in one chain. A free line's record word 0 names the next free line.
 use Rattle.std.specs.Prelude.{◌≡◌, ℕ, ◌+◌, ◌≤◌, List, [], ◌∷◌, length, map, if◌then◌else◌}
-use Rattle.seq_object.specs.Sizes.{Sizes}
 use Rattle.room_model.specs.Chains.{RoomWords, IsChain, times, is_node}
+use Rattle.seq_object.specs.declared.sizes.Sizes.{Sizes}
 
 -- the last of these lines, and x where there is none
 abbrev pub last_line : ℕ → List ℕ → ℕ

@@ -6,7 +6,7 @@ use Rattle.room_yard.specs.declared.answers.Rest.{Rest}
 use Rattle.yard_model.specs.Conditions.{MayLeave, MayClaim}
 use Rattle.room_yard.specs.Calls.{ForbidsLeave, ForbidsClaim}
 use Rattle.room_yard.specs.Answers.{HasLooked, FoundForbidden, MetAnother}
-use Rattle.room_yard.specs.Laws.{LeaveRestLooks, ClaimRestLooks, HeldLooks}
+use Rattle.room_yard.specs.Laws.{LeaveRestLooksLaw, ClaimRestLooksLaw, HeldLooksLaw}
 
 -- by one look, and by two
 looks_once : (v w : View) (word found : ℕ) → w ≡ looked v word found → HasLooked v w word found
@@ -21,11 +21,11 @@ rest_looks v w rest forbids allows cause = ⊎_elim
     (λ (c : MetAnother v rest allows w). looks_twice v w rest.found 2 rest.met c.view)
     cause
 
-pub leave_rest_looks : LeaveRestLooks
+pub leave_rest_looks : LeaveRestLooksLaw
 leave_rest_looks v w t u end rest is = rest_looks v w rest (ForbidsLeave v end rest.found) (MayLeave v end rest.found) is.cause
 
-pub claim_rest_looks : ClaimRestLooks
+pub claim_rest_looks : ClaimRestLooksLaw
 claim_rest_looks v w t u rest is = rest_looks v w rest (ForbidsClaim v rest.found) (MayClaim v rest.found) is.cause
 
-pub held_looks : HeldLooks
+pub held_looks : HeldLooksLaw
 held_looks v w t u r held is = looks_once v w (3 + r) held.by is.view

@@ -15,9 +15,9 @@ use Rattle.yard_model.specs.World.{Shows}
 use Rattle.yard_laws.proofs.Bits.{arrival_shows}
 use Rattle.room_yard.specs.Answers.{next_word}
 use Rattle.room_yard.specs.Calls.{ForbidsLeave, ForbidsClaim}
-use Rattle.room_yard.specs.Laws.{LeaveIsDecided, ClaimIsDecided, NextWordShows}
+use Rattle.room_yard.specs.Laws.{LeaveIsDecidedLaw, ClaimIsDecidedLaw, NextWordShowsLaw}
 
-pub leave_is_decided : LeaveIsDecided
+pub leave_is_decided : LeaveIsDecidedLaw
 leave_is_decided v end word may = decide (arrival_of word).closing (arrival_of word).over (leaves end (arrival_of word).fed) refl refl refl
   where
     decide : (c o f : Bool) → (arrival_of word).closing ≡ c → (arrival_of word).over ≡ o → leaves end (arrival_of word).fed ≡ f → MayLeave v end word ⊎ ForbidsLeave v end word
@@ -40,7 +40,7 @@ all_stand mask (suc n) = ⊎_elim
     (λ (fails : AllStand mask n → ⊥). inr (λ every. fails (λ i lt. every i (omega (arith, lt)))))
     (all_stand mask n)
 
-pub claim_is_decided : ClaimIsDecided
+pub claim_is_decided : ClaimIsDecidedLaw
 claim_is_decided v word may = decide (arrival_of word).closing (arrival_of word).over refl refl
   where
     decide : (c o : Bool) → (arrival_of word).closing ≡ c → (arrival_of word).over ≡ o → MayClaim v word ⊎ ForbidsClaim v word
@@ -48,7 +48,7 @@ claim_is_decided v word may = decide (arrival_of word).closing (arrival_of word)
     decide false true p q = inr (inr (inr (inl q)))
     decide false false p q = ⊎_elim
         (λ (all : AllStand (arrival_of word).mask v.beginning.settings.threads). dite (ℕ_discrete (arrival_of word).epoch v.ran)
-        (λ e. inl (record { on = may.on; phase = may.phase; few_marks = may.few_marks; all_stand = all; not_closing = p; not_over = q; epoch = e }))
+        (λ e. inl (record { on = may.on; phase = may.phase; few_checkpoints = may.few_checkpoints; all_stand = all; not_closing = p; not_over = q; epoch = e }))
         (λ ne. inr (inr (inr (inr ne)))))
         (λ (fails : AllStand (arrival_of word).mask v.beginning.settings.threads → ⊥). inr (inl fails))
         (all_stand (arrival_of word).mask v.beginning.settings.threads)
@@ -60,7 +60,7 @@ first_threads n i = ⊎_elim
     (λ (t : (leb (suc i) n ≡ false) × (n < suc i)). let ge = t.1 in ap (λ (k : ℕ). k == 1) (bit_at_ones_above n i (omega (arith, ge))) ∙ sym t.0)
     (leb_tells (suc i) n)
 
-pub next_word_shows : NextWordShows
+pub next_word_shows : NextWordShowsLaw
 next_word_shows threads over fed epoch few early = record { standing = λ i lt. s.standing i lt ∙ first_threads threads i; closing = s.closing; over = s.over; fed = s.fed; zeros = s.zeros; epoch = s.epoch }
   where
     begins : Arrival

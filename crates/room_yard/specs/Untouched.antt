@@ -1,6 +1,6 @@
 -- What the answers of two calls in a row say together.
 use Rattle.std.specs.Prelude.{◌≡◌, ℕ, ◌<◌}
-use Rattle.yard_model.specs.declared.room.Room.{Room}
+use Rattle.rooms.specs.declared.room.Room.{Room}
 use Rattle.yard_model.specs.declared.view.Phase.TheVariants.{Running}
 use Rattle.yard_model.specs.declared.view.View.{View}
 use Rattle.yard_model.specs.Knows.{sizes_known}
@@ -9,10 +9,10 @@ use Rattle.yard_model.specs.Conditions.{MayLock, IsGiven, MayUnlock}
 use Rattle.room_yard.specs.Told.{Told}
 
 -- a map room may go home as lock gave it, and the view is then what it was
-abbrev pub ReturnsUntouched : Type 0
-ReturnsUntouched = (v : View) (r : ℕ) (x : Room) (saved : ℕ) → MayLock v r → v.phase ≡ Running → r < (sizes_known v).shards → IsGiven v r x saved
-    → MayUnlock (gripped v r x saved) (grip_on v r x saved) x × (freed (gripped v r x saved) (grip_on v r x saved) x ≡ v)
+abbrev pub ReturnsUntouchedLaw : Type 0
+ReturnsUntouchedLaw = (v : View) (r : ℕ) (x : Room) (covered : ℕ) → MayLock v r → v.phase ≡ Running → r < (sizes_known v).shards → IsGiven v r x covered
+    → MayUnlock (gripped v r x covered) (grip_on v r x covered) x × (freed (gripped v r x covered) (grip_on v r x covered) x ≡ v)
 
 -- no entry and no checkpoint joined
 abbrev pub AddsNothing : Told → Told → Type 0
-AddsNothing a b = (b.history ≡ a.history) × (b.marks ≡ a.marks)
+AddsNothing a b = (b.history ≡ a.history) × (b.checkpoints ≡ a.checkpoints)

@@ -3,9 +3,10 @@
 ghost use Rattle.std.specs.Prelude.{◌≡◌, Option, List, IfOk, IfErr};
 ghost use Rattle.yard_model.specs.declared.view.View.{View as TheView};
 ghost use Rattle.yard_model.specs.Conditions.{MayLock, MayTick};
-ghost use Rattle.room_yard.specs.Told.{Told, IsTold, OwnMark, with_own};
+ghost use Rattle.room_yard.specs.Told.{Told, IsTold, HasOwn, with_own};
+ghost use Rattle.yard_model.specs.declared.view.OwnMark.{OwnMark as TheOwnMark};
 ghost use Rattle.room_yard.specs.Calls.{room_held, MayTryLeave, MayTryClaim, MayTryStand, MayReturn, MayGiveUp, MayDrawEntry, MayEndEpoch};
-ghost use Rattle.room_yard.specs.Answers.{Left, LeaveRests, Locked, LockIsHeld, Unlocked, Retreated, Drew, Stood, StandIsRefused, Claimed, ClaimRests, EndedEpoch, SawPower, Ticked, TurnedOff};
+ghost use Rattle.room_yard.specs.Answers.{HasLeft, LeaveRests, Locked, LockIsHeld, Unlocked, Retreated, Drew, Stood, StandIsRefused, Claimed, ClaimRests, EndedEpoch, SawPower, Ticked, TurnedOff};
 
 use crate::answers::{Held, HoldsLock, Rest};
 use life_model::Mark;
@@ -16,7 +17,8 @@ use yard_model::{Phase, Room};
 /// One thread's handle on a yard of rooms under locks. No call waits, and none takes memory.
 ///
 /// A handle means its thread's view. Where it has the whole yard it tells the yard's state too, which is lawful between any
-/// two calls; no call asks that it is told. Where it has not, it tells the checkpoints that its thread released.
+/// two calls; no call asks that it is told. Where it has not, it tells the checkpoints that its thread released, as many as the view
+/// says.
 ///
 /// After `powered` gave false, and after `off`, only `phase`, `thread`, `holds`, `is_off`, `powered`, `retreat`, `tick` and
 /// `off` may be called.
@@ -27,27 +29,31 @@ pub trait Post {
     ghost told: { Self → Option Told };
 
     // The checkpoints that its thread released, in order, where the handle keeps them.
-    ghost own_marks: { Self → Option (List OwnMark) };
+    ghost own_marks: { Self → Option (List TheOwnMark) };
 
     /// Where the thread is: at its restart point, at its commands, or closing an epoch.
     fn phase(&self) -> Phase
         ensures is { result ≡ (view self.now).phase }
-        ensures told { IsTold (told self.now) (view self.now) };
+        ensures told { IsTold (told self.now) (view self.now) }
+        ensures own { HasOwn (own_marks self.now) (view self.now) };
 
     /// The thread's number, from 0.
     fn thread(&self) -> u32
         ensures is { result ≡ (view self.now).thread }
-        ensures told { IsTold (told self.now) (view self.now) };
+        ensures told { IsTold (told self.now) (view self.now) }
+        ensures own { HasOwn (own_marks self.now) (view self.now) };
 
     /// The number of the room that the thread holds, if it holds one.
     fn holds(&self) -> Option<u32>
         ensures is { result ≡ room_held (view self.now).grip }
-        ensures told { IsTold (told self.now) (view self.now) };
+        ensures told { IsTold (told self.now) (view self.now) }
+        ensures own { HasOwn (own_marks self.now) (view self.now) };
 
     /// Whether the thread saw the power off, by `powered` or by `off`. It reads no shared word.
     fn is_off(&self) -> bool
         ensures is { result ≡ (view self.now).saw_off }
-        ensures told { IsTold (told self.now) (view self.now) };
+        ensures told { IsTold (told self.now) (view self.now) }
+        ensures own { HasOwn (own_marks self.now) (view self.now) };
 
     /// Leaves the restart point, with the end of the thread's room, and answers the epoch in which the thread now runs. It
     /// rests where the arrival word found forbids this, and where the exchange met another word.
@@ -55,7 +61,7 @@ pub trait Post {
         requires may { MayTryLeave (view self.old) end }
         ensures told { IsTold (told self.new) (view self.new) }
         ensures marks { own_marks self.new ≡ own_marks self.old }
-        ensures left { IfOk result (λ epoch. Left (view self.old) (told self.old) end epoch (view self.new) (told self.new)) }
+        ensures left { IfOk result (λ epoch. HasLeft (view self.old) (told self.old) end epoch (view self.new) (told self.new)) }
         ensures rests { IfErr result (λ rest. LeaveRests (view self.old) (told self.old) end rest (view self.new) (told self.new)) };
 
     /// Takes a room. `Held` comes exactly where its lock word is found not to be 0, and never while the thread closes.

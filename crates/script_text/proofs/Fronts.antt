@@ -8,11 +8,6 @@ use Rattle.script_text.specs.Reading.{Left}
 abbrev pub with_front : {A : Type 0} → List A → Result (List A) ScriptFault → Result (List A) ScriptFault
 with_front front read = read >>= λ xs. Ok (front ++ xs)
 
--- one more is in front
-pub front_more : {A : Type 0} (front : List A) (x : A) (read : Result (List A) ScriptFault) → with_front front (read >>= λ xs. Ok (x ∷ xs)) ≡ with_front (front ++ x ∷ []) read
-front_more front x (Ok xs) = ap Ok (simp append_assoc)
-front_more front x (Err f) = refl
-
 -- a list that was read before, what is still read, and what is left behind it
 abbrev pub with_front_and_rest : {A : Type 0} → List A → Result (List A × Left) ScriptFault → Result (List A × Left) ScriptFault
 with_front_and_rest front read = read >>= λ x. Ok (front ++ x.0, x.1)

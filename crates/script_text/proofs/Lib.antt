@@ -7,10 +7,10 @@ pub mod Free
 pub mod NumberLaws
 pub mod LineLaws
 pub mod TurnLaws
+pub mod ScheduleLaws
 pub mod CommandLaws
 pub mod SectionLaws
 pub mod WholeLaws
 pub mod Readings
 pub mod PrintLaws
 pub mod ReportLaws
-pub mod StateLaws

@@ -6,11 +6,11 @@ use Rattle.script_text.specs.declared.fault.ScriptFault.{ScriptFault}
 use Rattle.seq_object.specs.declared.settings.Settings.{Settings}
 use Rattle.script_text.specs.Pieces.{pieces}
 use Rattle.script_text.specs.Reading.{Left}
-use Rattle.seq_object.specs.Sizes.{sizes_of, IsValid}
+use Rattle.seq_object.specs.Sizes.{sizes_of, IsValid, line_total}
 use Rattle.script_text.specs.Head.{fixed_line_at, settings_at}
 use Rattle.script_text.specs.Turns.{turns_at}
 use Rattle.script_text.specs.Keep.{keep_at}
-use Rattle.script_text.specs.Program.{lines_in_all, Program}
+use Rattle.script_text.specs.Program.{Program}
 use Rattle.script_text.specs.Sections.{sections_at}
 use Rattle.script_text.specs.Whole.{nothing_among, end_at, program_at, program_in}
 use Rattle.script_text.specs.Text.{spaced, settings_lines, turns_words, keep_words, sections_lines, program_lines, text_of, HasText}
@@ -22,7 +22,7 @@ use Rattle.script_text.proofs.KeepLemmas.{keep_ok, keep_again, keep_solid}
 use Rattle.script_text.proofs.SectionLaws.{sections_ok, sections_again, sections_free}
 
 -- the lines of all rooms are few
-all_fits : (s : Settings) → IsValid s → lines_in_all (sizes_of s) < 2 ^ 64
+all_fits : (s : Settings) → IsValid s → line_total (sizes_of s) < 2 ^ 64
 all_fits s within =
     let most : (s.shards + 1) * s.lines ≤ 9 * 65536 = mul-le-mul {n₂ = 9} {m₂ = 65536} (omega (arith, within.sizes.few_shards)) within.sizes.few_lines in
     omega (arith, most, within.sizes.few_threads)
@@ -46,12 +46,12 @@ program_ok left p e =
     let a = bind_ok (fixed_line_at bad_head (codes "respct 1") left) _ p e in
     let s = bind_ok (settings_at a.0) _ p a.2 in
     let t = bind_ok (turns_at s.0.0.threads s.0.1) _ p s.2 in
-    let k = bind_ok (keep_at (lines_in_all (sizes_of s.0.0)) t.0.1) _ p t.2 in
+    let k = bind_ok (keep_at (line_total (sizes_of s.0.0)) t.0.1) _ p t.2 in
     let c = bind_ok (sections_at s.0.0.threads 0 k.0.1) _ p k.2 in
     let z = bind_ok (end_at c.0.1) _ p c.2 in
     let fs = settings_ok a.0 s.0.0 s.0.1 s.1 in
     let ft = turns_ok s.0.0.threads s.0.1 t.0.0 t.0.1 t.1 in
-    let fk = keep_ok (lines_in_all (sizes_of s.0.0)) t.0.1 k.0.0 k.0.1 k.1 in
+    let fk = keep_ok (line_total (sizes_of s.0.0)) t.0.1 k.0.0 k.0.1 k.1 in
     let fc = sections_ok s.0.0.threads 0 k.0.1 c.0.0 c.0.1 c.1 in
     let found : Program = record { settings = s.0.0; turns = t.0.0; keep = k.0.0; threads = c.0.0 } in
     let tail = spaced (turns_words t.0.0) ∷ spaced (keep_words k.0.0) ∷ (sections_lines 0 c.0.0 ++ codes "end" ∷ []) in
@@ -79,7 +79,7 @@ lines_free p has =
       AreFree-append 10 (settings_lines p.settings) (spaced (turns_words p.turns) ∷ spaced (keep_words p.keep) ∷ (sections_lines 0 p.threads ++ codes "end" ∷ [])) (settings_solid p.settings has.settings) (
         free-spaced (turns_words p.turns) (turns_solid p.settings.threads p.turns narrow has.turns),
         (
-          free-spaced (keep_words p.keep) (keep_solid (lines_in_all (sizes_of p.settings)) p.keep (all_fits p.settings has.settings) has.keep),
+          free-spaced (keep_words p.keep) (keep_solid (line_total (sizes_of p.settings)) p.keep (all_fits p.settings has.settings) has.keep),
           AreFree-append 10 (sections_lines 0 p.threads) (codes "end" ∷ []) (sections_free 0 p.threads (omega (arith, has.threads)) has.sections) (refl, tt),
         ),
       ),
@@ -107,7 +107,7 @@ program_again left p has is =
     bind_to (fixed_line_at bad_head (codes "respct 1") left) _ l1 all (fixed_again bad_head (codes "respct 1") left l1.pieces regrouped (omega arith))
     (bind_to (settings_at l1) _ (p.settings, l2) all (settings_again l1 p.settings tail has.settings refl (omega arith))
     (bind_to (turns_at p.settings.threads l2) _ (p.turns, l3) all (turns_again p.settings.threads l2 p.turns l3.pieces narrow has.turns refl (omega arith))
-    (bind_to (keep_at (lines_in_all (sizes_of p.settings)) l3) _ (p.keep, l4) all (keep_again (lines_in_all (sizes_of p.settings)) l3 p.keep body fits has.keep refl some)
+    (bind_to (keep_at (line_total (sizes_of p.settings)) l3) _ (p.keep, l4) all (keep_again (line_total (sizes_of p.settings)) l3 p.keep body fits has.keep refl some)
     (bind_to (sections_at p.settings.threads 0 l4) _ (p.threads, l5) all (ap (λ (n : ℕ). sections_at n 0 l4) (sym has.threads) ∙ sections.reads)
     (bind_to (end_at l5) (λ _. all) tt all (bind_to (fixed_line_at bad_thread (codes "end") l5) (λ l. nothing_among l.pieces l.line) l6 (done tt) (fixed_again bad_thread (codes "end") l5 ([] ∷ []) refl (omega arith)) refl)
     refl)))))

@@ -2,18 +2,9 @@
 -- alone says which are.
 use Rattle.std.specs.Prelude.{◌≡◌, ℕ, List, [], ◌∷◌, All}
 use Rattle.seq_object.specs.declared.command.Command.{Command}
-use Rattle.seq_object.specs.declared.command.Command.TheVariants.{Put, Get, Del, Enq, Deq, Take}
 use Rattle.script_text.specs.Program.{Turns, round_robin, seeded, listed, live, Program}
 use Rattle.script_text.specs.Text.{IsScriptText}
-
--- commands that are built: all but a take, which may wait
-abbrev pub IsCommandBuilt : Command → Type 0
-IsCommandBuilt (Put key value) = Unit {0}
-IsCommandBuilt (Get key) = Unit {0}
-IsCommandBuilt (Del key) = Unit {0}
-IsCommandBuilt (Enq value) = Unit {0}
-IsCommandBuilt Deq = Unit {0}
-IsCommandBuilt Take = ⊥
+use Rattle.seq_object.specs.Object.{IsTakeless}
 
 -- turns that are built: those that go round, however many they are
 abbrev pub AreTurnsBuilt : Turns → Type 0
@@ -25,7 +16,7 @@ AreTurnsBuilt (live n) = ⊥
 -- threads that are built: one, with turns and commands that are built
 abbrev pub IsOneThread : Turns → List (List Command) → Type 0
 IsOneThread turns [] = ⊥
-IsOneThread turns (commands ∷ []) = AreTurnsBuilt turns × All IsCommandBuilt commands
+IsOneThread turns (commands ∷ []) = AreTurnsBuilt turns × All IsTakeless commands
 IsOneThread turns (commands ∷ others ∷ more) = ⊥
 
 -- the form that is built: one shard, one thread, and each of its parts as above

@@ -1,6 +1,7 @@
 pub mod Program
 pub mod Pieces
 pub mod Text
+pub mod Schedules
 pub mod Numbers
 pub mod Faults
 pub mod Reading
@@ -12,4 +13,5 @@ pub mod Sections
 pub mod Whole
 pub mod Built
 pub mod ReportText
+pub mod ReportLimits
 pub mod StateText

@@ -1,6 +1,5 @@
 -- Programs: what a script says, without where it lies in memory. One script has one program, and one program one text.
-use Rattle.std.specs.Prelude.{ℕ, ◌+◌, ◌*◌, List, map}
-use Rattle.seq_object.specs.Sizes.{Sizes}
+use Rattle.std.specs.Prelude.{ℕ, List, map}
 use Rattle.seq_object.specs.declared.settings.Settings.{Settings}
 use Rattle.seq_object.specs.declared.command.Command.{Command}
 use Rattle.store_order.specs.declared.choice.Kept.{Kept}
@@ -62,7 +61,3 @@ most_turns = 10000000
 -- a thread has at most so many commands
 abbrev pub most_commands : ℕ
 most_commands = 4096
-
--- how many lines all rooms have together: the shards' rooms and the queue room, a line for each thread, and the line of the epoch
-abbrev pub lines_in_all : Sizes → ℕ
-lines_in_all z = (z.shards + 1) * z.lines + z.threads + 1

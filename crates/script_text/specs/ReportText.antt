@@ -5,20 +5,11 @@ use Rattle.seq_object.specs.declared.command.Reply.{Reply}
 use Rattle.seq_object.specs.declared.command.Reply.TheVariants as replies
 use Rattle.seq_object.specs.declared.history.Entry.{Entry}
 use Rattle.life_model.specs.declared.life.Mark.{Mark}
+use Rattle.life_model.specs.Told.{ReportState}
 use Rattle.life_model.specs.declared.life.Outcome.{Outcome}
 use Rattle.life_model.specs.declared.life.Outcome.TheVariants as outcomes
 use Rattle.script_text.specs.declared.report.Report.{Report}
 use Rattle.script_text.specs.Text.{ended, command_line}
-
--- a report, without where its lists lie in memory
-pub record ReportState : Type 0 where
-  pub resumed : Bool
-  pub began : ℕ
-  pub entries : List Entry
-  pub marks : List Mark
-  pub held : List ℕ
-  pub flushed : ℕ
-  pub outcome : Outcome
 
 -- what a report says
 abbrev pub report_of : Report → ReportState
@@ -101,5 +92,5 @@ AreRising above all [] = Unit {0}
 AreRising above all (m ∷ ms) = (above ≤ m.length) × (m.length ≤ all) × AreRising m.length all ms
 
 -- each mark of the report has its place among the entries
-abbrev pub IsMarked : ReportState → Type 0
-IsMarked r = AreRising 0 (length r.entries) r.marks
+abbrev pub AreMarksRising : ReportState → Type 0
+AreMarksRising r = AreRising 0 (length r.entries) r.marks

@@ -2,12 +2,12 @@
 use Rattle.std.specs.Prelude.{ℕ, ◌+◌, ◌<◌, ◌≤◌, ◌^◌, ◌≡◌, List, [], ◌∷◌, ◌++◌, codes, map, length}
 use Rattle.std.specs.List.{flat_map, AllByRecursion}
 use Rattle.std.specs.Fmt.{decimal}
-use Rattle.seq_object.specs.Sizes.{sizes_of, IsValid}
+use Rattle.seq_object.specs.Sizes.{sizes_of, IsValid, line_total}
 use Rattle.seq_object.specs.declared.settings.Settings.{Settings}
 use Rattle.seq_object.specs.declared.command.Command.{Command}
 use Rattle.seq_object.specs.declared.command.Command.TheVariants.{Put, Get, Del, Enq, Deq, Take}
 use Rattle.store_order.specs.declared.choice.Kept.{Kept}
-use Rattle.script_text.specs.Program.{Turns, round_robin, seeded, listed, live, Keeping, nothing, everything, by_seed, these, Program, most_turns, most_commands, lines_in_all}
+use Rattle.script_text.specs.Program.{Turns, round_robin, seeded, listed, live, Keeping, nothing, everything, by_seed, these, Program, most_turns, most_commands}
 use Rattle.script_text.specs.Pieces.{joined}
 
 -- words with a space between each two
@@ -125,7 +125,7 @@ IsSection commands = (length commands ≤ most_commands) × AllByRecursion IsCom
 pub record HasText (p : Program) : Type 0 where
   pub settings : IsValid p.settings
   pub turns : AreTurns p.settings.threads p.turns
-  pub keep : IsKeeping (lines_in_all (sizes_of p.settings)) p.keep
+  pub keep : IsKeeping (line_total (sizes_of p.settings)) p.keep
   pub threads : length p.threads ≡ p.settings.threads
   pub sections : AllByRecursion IsSection p.threads
 

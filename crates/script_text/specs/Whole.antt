@@ -1,8 +1,8 @@
 -- A whole text: its program, or its first fault.
 use Rattle.std.specs.Prelude.{ℕ, List, [], ◌∷◌, codes, Result, Ok, Err}
-use Rattle.seq_object.specs.Sizes.{sizes_of}
+use Rattle.seq_object.specs.Sizes.{sizes_of, line_total}
 use Rattle.script_text.specs.declared.fault.ScriptFault.{ScriptFault}
-use Rattle.script_text.specs.Program.{Program, lines_in_all}
+use Rattle.script_text.specs.Program.{Program}
 use Rattle.script_text.specs.Pieces.{pieces}
 use Rattle.script_text.specs.Faults.{bad_head, bad_thread, text_after, ◌>>=◌, fault}
 use Rattle.script_text.specs.Reading.{Left}
@@ -28,7 +28,7 @@ program_at left =
     fixed_line_at bad_head (codes "respct 1") left >>= λ first.
     settings_at first >>= λ settings.
     turns_at settings.0.threads settings.1 >>= λ turns.
-    keep_at (lines_in_all (sizes_of settings.0)) turns.1 >>= λ keep.
+    keep_at (line_total (sizes_of settings.0)) turns.1 >>= λ keep.
     sections_at settings.0.threads 0 keep.1 >>= λ threads.
     end_at threads.1 >>= λ _.
     Ok (record { settings = settings.0; turns = turns.0; keep = keep.0; threads = threads.0 })

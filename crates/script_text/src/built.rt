@@ -4,7 +4,8 @@
 ghost use Rattle.std.specs.Prelude.{◌≡◌, ◌↔◌, map, IfOk, IsTrue, All};
 ghost use Rattle.script_text.specs.Program.{Program, program_of, turns_of};
 ghost use Rattle.script_text.specs.Faults.{Gives, fault};
-ghost use Rattle.script_text.specs.Built.{IsCommandBuilt, AreTurnsBuilt, IsOneThread, IsFormBuilt, IsBuiltText, IsNotBuilt};
+ghost use Rattle.script_text.specs.Built.{AreTurnsBuilt, IsOneThread, IsFormBuilt, IsBuiltText, IsNotBuilt};
+ghost use Rattle.seq_object.specs.Object.{IsTakeless};
 
 use crate::fault::{NOT_BUILT, ScriptFault, ScriptRefusal};
 use crate::mode::Mode;
@@ -72,14 +73,14 @@ fn are_turns_built(mode: &Mode) -> bool
 
 // Whether all commands are built.
 fn are_commands_built(commands: &[Command]) -> bool
-    ensures { IsTrue result ↔ All IsCommandBuilt commands.now }
+    ensures { IsTrue result ↔ All IsTakeless commands.now }
 {
     commands.iter().all(|command| is_command_built(*command))
 }
 
 // Whether a command is built: each but `take`.
 fn is_command_built(command: Command) -> bool
-    ensures { IsTrue result ↔ IsCommandBuilt command }
+    ensures { IsTrue result ↔ IsTakeless command }
 {
     matches!(
         command,

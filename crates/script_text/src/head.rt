@@ -12,7 +12,7 @@ use crate::fault::{SETTING, ScriptFault};
 use crate::numbers::limited;
 use crate::pieces::{Words, is_word, words_of};
 use crate::place::Place;
-use seq_object::Settings;
+use seq_object::{LEAST_LINES, MOST_EVERY, MOST_LINES, MOST_SHARDS, MOST_THREADS, Settings};
 
 /// A line that has to be this text, and else is a fault of this kind. The place behind it.
 pub fn fixed_line<'a>(place: Place<'a>, text: &str, kind: u32) -> Result<Place<'a>, ScriptFault>
@@ -76,10 +76,10 @@ pub fn settings(place: Place<'_>) -> Result<(Settings, Place<'_>), ScriptFault>
     ensures within { IfOk result (λ found. IsValid found.0) }
     ensures reads { Reads (λ found. (found.0, left_of found.1)) result (settings_at (left_of place.entry)) }
 {
-    let (threads, place) = setting(place, "threads", 1, 16)?;
-    let (shards, place) = setting(place, "shards", 1, 8)?;
-    let (lines, place) = setting(place, "lines", 16, 65536)?;
-    let (every, place) = setting(place, "every", 1, 1024)?;
+    let (threads, place) = setting(place, "threads", 1, MOST_THREADS)?;
+    let (shards, place) = setting(place, "shards", 1, MOST_SHARDS)?;
+    let (lines, place) = setting(place, "lines", LEAST_LINES, MOST_LINES)?;
+    let (every, place) = setting(place, "every", 1, MOST_EVERY)?;
     let settings = Settings {
         threads,
         shards,

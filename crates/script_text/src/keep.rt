@@ -1,19 +1,17 @@
-//! The line of what a cut keeps, and the lines that there are in all.
+//! The line of what a cut keeps.
 //! A list of lines ascends strictly, so one choice has one text.
 
 ghost use Rattle.std.specs.Prelude.{◌≡◌, ◌+◌, ◌<◌, ◌^◌, ◌∷◌, [], option_copied, IfOk};
 ghost use Rattle.script_text.specs.Faults.{Gives, Reads};
 ghost use Rattle.script_text.specs.Pieces.{pieces, words, pieces_behind};
 ghost use Rattle.script_text.specs.Reading.{left_of};
-ghost use Rattle.seq_object.specs.Sizes.{sizes_of, IsValid};
-ghost use Rattle.script_text.specs.Program.{keeping_of, lines_in_all};
+ghost use Rattle.script_text.specs.Program.{keeping_of};
 ghost use Rattle.script_text.specs.Keep.{item_of_pieces, item_list, plain_keep, keep_of_words, keep_at};
 
 use crate::fault::{KEEP, RANGE, ScriptFault, ScriptRefusal};
 use crate::numbers::number;
 use crate::pieces::{Words, first_piece, is_word, list_behind, words_of};
 use crate::place::Place;
-use seq_object::Settings;
 use std::alloc::Global;
 use store_order::{Choice, Kept};
 
@@ -30,14 +28,6 @@ pub fn keep<'a>(
     let (text, behind) = place.line()?;
     let choice = choice_of(alloc, text, place.line, all)?;
     Ok((choice, behind))
-}
-
-/// The lines of all rooms.
-pub fn all_lines(settings: &Settings) -> u32
-    requires { IsValid settings.now }
-    ensures { result ≡ lines_in_all (sizes_of settings.now) }
-{
-    (settings.shards + 1) * settings.lines + settings.threads + 1
 }
 
 // The choice that a line says.

@@ -123,12 +123,20 @@ fn push_section(out: &mut String, thread: usize, commands: &[Command]) -> Result
 fn push_command(out: &mut String, command: Command) -> Result<(), AllocError>
     ensures { OnOk result (string_bytes out.new ≡ string_bytes out.old ++ (command_line command ++ 10 ∷ [])) }
 {
+    push_command_words(out, command)?;
+    writeln!(out)
+}
+
+/// Writes the words of a command at the end.
+pub fn push_command_words(out: &mut String, command: Command) -> Result<(), AllocError>
+    ensures { OnOk result (string_bytes out.new ≡ string_bytes out.old ++ command_line command) }
+{
     match command {
-        Command::Put(key, value) => writeln!(out, "put {key} {value}"),
-        Command::Get(key) => writeln!(out, "get {key}"),
-        Command::Del(key) => writeln!(out, "del {key}"),
-        Command::Enq(value) => writeln!(out, "enq {value}"),
-        Command::Deq => writeln!(out, "deq"),
-        Command::Take => writeln!(out, "take"),
+        Command::Put(key, value) => write!(out, "put {key} {value}"),
+        Command::Get(key) => write!(out, "get {key}"),
+        Command::Del(key) => write!(out, "del {key}"),
+        Command::Enq(value) => write!(out, "enq {value}"),
+        Command::Deq => write!(out, "deq"),
+        Command::Take => write!(out, "take"),
     }
 }

@@ -19,5 +19,6 @@ pub struct Report {
     pub held: Vec<u32>,
     /// How many write-backs the life made.
     pub flushed: u64,
+    /// How the life ended.
     pub outcome: Outcome,
 }

@@ -3,19 +3,20 @@
 
 ghost use Rattle.std.specs.Prelude.{◌≡◌, ◌++◌, ◌-◌, [], ◌∷◌, map, length, take, OnOk, IfOk};
 ghost use Rattle.std.specs.String.{string_bytes};
-ghost use Rattle.script_text.specs.Text.{ended, command_line};
-ghost use Rattle.script_text.specs.ReportText.{report_of, reply_text, entry_line, item_lines, held_line, life_line, front_lines, last_lines, report_bytes, AreRising, IsMarked};
+ghost use Rattle.script_text.specs.Text.{ended};
+ghost use Rattle.script_text.specs.ReportText.{report_of, reply_text, entry_line, item_lines, held_line, life_line, front_lines, last_lines, report_bytes, AreRising, AreMarksRising};
 
+use crate::printing::push_command_words;
 use crate::report::Report;
 use life_model::{Mark, Outcome};
-use seq_object::{Command, Entry, Reply};
+use seq_object::{Entry, Reply};
 use std::alloc::{AllocError, Global};
 
 /// The text of a report, each line with its line feed.
 ///
 /// The marks have to stand in order: their lengths do not fall, and are at most the number of entries.
 pub fn report_text(alloc: Global, report: &Report) -> Result<Vec<u8>, AllocError>
-    requires { IsMarked (report_of report.now) }
+    requires { AreMarksRising (report_of report.now) }
     ensures { IfOk result (λ text. text.items ≡ report_bytes (report_of report.now)) }
 {
     let mut out = String::new(alloc);
@@ -105,20 +106,6 @@ fn push_entry(out: &mut String, entry: Entry) -> Result<(), AllocError>
     write!(out, " = ")?;
     push_reply(out, entry.reply)?;
     writeln!(out)
-}
-
-// Writes the words of a command at the end.
-fn push_command_words(out: &mut String, command: Command) -> Result<(), AllocError>
-    ensures { OnOk result (string_bytes out.new ≡ string_bytes out.old ++ command_line command) }
-{
-    match command {
-        Command::Put(key, value) => write!(out, "put {key} {value}"),
-        Command::Get(key) => write!(out, "get {key}"),
-        Command::Del(key) => write!(out, "del {key}"),
-        Command::Enq(value) => write!(out, "enq {value}"),
-        Command::Deq => write!(out, "deq"),
-        Command::Take => write!(out, "take"),
-    }
 }
 
 // Writes a reply at the end.

@@ -8,7 +8,9 @@ use store_order::Choice;
 /// What is to be run.
 #[derive(Debug, Drop)]
 pub struct Script {
+    /// How many threads, shards and lines there are, and how many commands an epoch has.
     pub settings: Settings,
+    /// Which thread has which turn.
     pub mode: Mode,
     /// What a power cut at the end of the run keeps.
     pub keep: Choice,

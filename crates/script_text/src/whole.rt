@@ -10,7 +10,7 @@ ghost use Rattle.script_text.specs.Text.{IsScriptText};
 
 use crate::fault::{AFTER, HEAD, ScriptFault, ScriptRefusal, THREAD};
 use crate::head::{fixed_line, settings};
-use crate::keep::{all_lines, keep};
+use crate::keep::keep;
 use crate::place::Place;
 use crate::script::Script;
 use crate::sections::sections;
@@ -50,7 +50,7 @@ fn script_at(alloc: Global, place: Place<'_>) -> Result<Script, ScriptRefusal>
     let place = fixed_line(place, "respct 1", HEAD)?;
     let (settings, place) = settings(place)?;
     let (mode, place) = turns(alloc, place, settings.threads)?;
-    let (keep, place) = keep(alloc, place, all_lines(&settings))?;
+    let (keep, place) = keep(alloc, place, settings.sizes().line_total())?;
     let (threads, place) = sections(alloc, place, settings.threads)?;
     end(place)?;
     Ok(Script {

@@ -6,11 +6,11 @@ use Rattle.std.specs.FinMap.{get, insert, remove, len, empty, empty_of_len, get-
 use Rattle.std.proofs.lemmas.Bool.{ne_eqb}
 use Rattle.std.proofs.lemmas.Bool.Decides.{eqb_tells}
 use Rattle.std.proofs.lemmas.List.{get_or-set_same, get_or-set_other}
-use Rattle.seq_object.specs.Sizes.{Sizes}
 use Rattle.seq_object.specs.Object.{Pairs, shard_of, shard_pairs}
 use Rattle.seq_object.specs.Plain.{AreCounts}
 use Rattle.seq_object.proofs.Pairs.{got_key, got_kept, one_map}
 use Rattle.seq_object.proofs.Shards.{shard_put, shard_remove}
+use Rattle.seq_object.specs.declared.sizes.Sizes.{Sizes}
 
 -- a map that has a key is not empty
 pub some_len : (m : Pairs) (k v : ℕ) → get m k ≡ Some v → 1 ≤ len m

@@ -35,10 +35,6 @@ entries_removed es fs k removed = one_map _ _ (λ q. got_entry fs q ∙ removed 
     ∙ ap (λ (b : Bool). cond b None (found es q)) ((eq_by_cmp_equiv nat_cmp_total).symm k q)
     ∙ ap (cond (is_eq (nat_cmp q k)) None) (sym (got_entry es q)) ∙ sym (get-remove nat_cmp_total (from_entries es) k q))
 
--- entries of which nothing changed are the same map
-pub entries_same : (es fs : List (ℕ × ℕ)) → fs ≡ es → from_entries {R = nat_cmp} fs ≡ from_entries {R = nat_cmp} es
-entries_same es fs same = ap (from_entries {R = nat_cmp}) same
-
 -- two tests that hold make their conjunction hold
 both : (a b : Bool) → T a → T b → T (a && b)
 both true b p q = q

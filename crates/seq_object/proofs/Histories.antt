@@ -1,15 +1,16 @@
 -- Histories in two pieces.
 use Rattle.std.proofs.Common.{◌≡◌, ℕ, ◌+◌, ◌<◌, ◌≤◌, ◌==◌, zero, suc, List, [], ◌∷◌, ◌++◌, length, Some, refl, sym, ap, ◌∙◌, subst, arith, length-append}
-use Rattle.std.specs.Prelude.{slice_get, slice_index, map, take, drop}
+use Rattle.std.specs.Prelude.{slice_get, map, take, drop}
 use Rattle.std.proofs.lemmas.Option.{slice_get_within}
 use Rattle.std.proofs.lemmas.List.{take-append-drop}
 use Rattle.std.proofs.lemmas.List.Elements.{filter-append}
 use Rattle.seq_object.specs.declared.command.Command.{Command}
 use Rattle.seq_object.specs.declared.history.Entry.{Entry}
-use Rattle.seq_object.specs.Sizes.{Sizes}
 use Rattle.seq_object.specs.Object.{Contents, contents_after}
-use Rattle.seq_object.specs.History.{of_thread, contents_at, IsLegal, risen_from, AreCommands, counted_from}
-use Rattle.seq_object.specs.Laws.{LegalInPiecesLaw, AfterInPiecesLaw, PositionLaw, CommandsInPiecesLaw, PrefixLaw, InOrderLaw}
+use Rattle.seq_object.specs.History.{of_thread, contents_at, IsLegal, point_at, point_behind, points_from, AreCommands, counted_from}
+use Rattle.seq_object.specs.Laws.{LegalInPiecesLaw, AfterInPiecesLaw, PointLaw, PointCountLaw, CommandsInPiecesLaw, PrefixLaw, InOrderLaw}
+use Rattle.seq_object.specs.declared.history.RestartPoint.{RestartPoint}
+use Rattle.seq_object.specs.declared.sizes.Sizes.{Sizes}
 
 -- what two pieces leave is what the second leaves after the first
 pub contents-append : (z : Sizes) (c : Contents) (xs ys : List Entry) → contents_at z c (xs ++ ys) ≡ contents_at z (contents_at z c xs) ys
@@ -39,30 +40,39 @@ legal_in_pieces z c xs ys = (joined z c xs ys, λ l. (front z c xs ys l, back z 
 pub count-append : (i : ℕ) (xs ys : List Entry) → length (of_thread i (xs ++ ys)) ≡ length (of_thread i xs) + length (of_thread i ys)
 count-append i xs ys = ap length (filter-append (λ e. e.thread == i) xs ys) ∙ length-append (of_thread i xs) (of_thread i ys)
 
--- positions rise by two pieces as by the one and then the other
-pub risen-append : (i : ℕ) (ps : List ℕ) (xs ys : List Entry) → risen_from i ps (xs ++ ys) ≡ risen_from i (risen_from i ps xs) ys
-risen-append i [] xs ys = refl
-risen-append i (p ∷ ps) xs ys =
-    let here : p + length (of_thread i (xs ++ ys)) ≡ p + length (of_thread i xs) + length (of_thread i ys) = omega (arith, count-append i xs ys) in
-    let rest = risen-append (suc i) ps xs ys in
-    λ m. here m ∷ rest m
+-- the restart points behind two pieces are those behind the one and then the other
+pub points-append : (i : ℕ) (ps : List RestartPoint) (xs ys : List Entry) → points_from i ps (xs ++ ys) ≡ points_from i (points_from i ps xs) ys
+points-append i [] xs ys = refl
+points-append i (p ∷ ps) xs ys =
+    let here : p.position + length (of_thread i (xs ++ ys)) ≡ p.position + length (of_thread i xs) + length (of_thread i ys) = omega (arith, count-append i xs ys) in
+    let rest = points-append (suc i) ps xs ys in
+    λ m. record { position = here m } ∷ rest m
 
 -- the state after two pieces is that after the second from the first
 pub after_in_pieces : AfterInPiecesLaw
 after_in_pieces z s xs ys =
     let contents = contents-append z s.contents xs ys in
-    let positions = risen-append 0 s.positions xs ys in
-    λ m. record { contents = contents m; positions = positions m }
+    let points = points-append 0 s.points xs ys in
+    λ m. record { contents = contents m; points = points m }
 
--- one position rises by the number of its thread's entries
-risen_at : (i k : ℕ) (ps : List ℕ) (h : List Entry) → k < length ps → slice_index (risen_from i ps h) k ≡ slice_index ps k + length (of_thread (i + k) h)
-risen_at i k [] h lt = absurd (omega arith)
-risen_at i zero (p ∷ ps) h lt = ap (λ (n : ℕ). p + length (of_thread n h)) (omega arith)
-risen_at i (suc k) (p ∷ ps) h lt = risen_at (suc i) k ps h (omega arith) ∙ ap (λ (n : ℕ). slice_index ps k + length (of_thread n h)) (omega arith)
+-- one restart point is behind its thread's entries
+behind_at : (i k : ℕ) (ps : List RestartPoint) (h : List Entry) → k < length ps → point_at (points_from i ps h) k ≡ point_behind (point_at ps k) (of_thread (i + k) h)
+behind_at i k [] h lt = absurd (omega arith)
+behind_at i zero (p ∷ ps) h lt = ap (λ (n : ℕ). point_behind p (of_thread n h)) (omega arith)
+behind_at i (suc k) (p ∷ ps) h lt = behind_at (suc i) k ps h (omega arith) ∙ ap (λ (n : ℕ). point_behind (point_at ps k) (of_thread n h)) (omega arith)
 
--- a thread's position rises by the number of its entries
-pub position : PositionLaw
-position z s h i lt = risen_at 0 i s.positions h lt ∙ ap (λ (n : ℕ). slice_index s.positions i + length (of_thread n h)) (omega arith)
+-- a thread's restart point is behind its own entries
+pub point : PointLaw
+point z s h i lt = behind_at 0 i s.points h lt ∙ ap (λ (n : ℕ). point_behind (point_at s.points i) (of_thread n h)) (omega arith)
+
+-- so many restart points stay so many
+counted_points : (i : ℕ) (ps : List RestartPoint) (h : List Entry) → length (points_from i ps h) ≡ length ps
+counted_points i [] h = refl
+counted_points i (p ∷ ps) h = ap suc (counted_points (suc i) ps h)
+
+-- a history leaves as many restart points as there were
+pub point_count : PointCountLaw
+point_count z s h = counted_points 0 s.points h
 
 -- two pieces that go through a script one after the other do so together
 commands_joined : (script : List Command) (place : ℕ) (xs ys : List Entry) → AreCommands script place xs → AreCommands script (place + length xs) ys → AreCommands script place (xs ++ ys)

@@ -6,11 +6,12 @@ use Rattle.std.specs.Prelude.{nat_le}
 use Rattle.std.specs.FinMap.{empty, get, remove, len}
 use Rattle.seq_object.specs.declared.command.Command.TheVariants.{Put, Get, Del, Enq, Deq, Take}
 use Rattle.seq_object.specs.declared.history.Entry.{Entry}
-use Rattle.seq_object.specs.Sizes.{Sizes, map_capacity}
+use Rattle.seq_object.specs.Sizes.{map_capacity}
 use Rattle.seq_object.specs.Object.{Pairs, Contents, shard_of, shard_pairs, is_shard_full, is_queue_full, put_pairs, put_reply, get_reply, del_reply, rest_of, reply_to, contents_after, room_of, part_of}
 use Rattle.seq_object.specs.History.{of_room, contents_at, IsLegal}
 use Rattle.seq_object.specs.Laws.{RoomReplyLaw, OwnRoomLaw, OtherRoomLaw, RoomAfterLaw, RoomByRoomLaw, RoomBoundLaw, OneWholeLaw}
 use Rattle.seq_object.proofs.Pairs.{one_map, got_key, kept_twice, kept_put_pairs, lost_put_pairs, kept_removed, lost_removed}
+use Rattle.seq_object.specs.declared.sizes.Sizes.{Sizes}
 
 -- contents of pairs alone
 abbrev pub only_pairs : Pairs → Contents

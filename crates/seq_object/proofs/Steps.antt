@@ -1,13 +1,12 @@
 -- One command on the object as a program keeps it.
 use Rattle.std.proofs.Common.{◌≡◌, ℕ, ◌+◌, ◌-◌, ◌≤◌, ◌%◌, zero, suc, true, false, cond, Option, Some, None, List, [], length, refl, sym, ap, ◌∙◌, subst, arith}
-use Rattle.std.specs.Prelude.{slice_index, slice_set, is_some}
+use Rattle.std.specs.Prelude.{slice_index, slice_set, is_some, replicate}
 use Rattle.std.specs.Ordering.{nat_cmp, is_eq}
 use Rattle.std.specs.FinMap.{get, insert, from_entries}
 use Rattle.seq_object.specs.declared.command.Command.TheVariants.{Put}
 use Rattle.seq_object.specs.declared.settings.Settings.{Settings}
 use Rattle.seq_object.specs.Sizes.{sizes_of}
 use Rattle.seq_object.specs.Object.{Pairs, with_pairs, put_pairs, is_shard_full}
-use Rattle.seq_object.specs.History.{zeros}
 use Rattle.seq_object.specs.Plain.{PlainState, plain_after, plain_state, AreCounts, IsKept}
 use Rattle.seq_object.proofs.Entries.{found, got_entry, entries_put, entries_removed}
 use Rattle.seq_object.proofs.Counters.{some_count, counts_new, counts_gone, counts_old, none_counts}
@@ -83,12 +82,12 @@ may_lower s es counts k v kept some =
     let one = kept.sizes.some_shards in
     some_count (sizes_of s) (from_entries es) counts k v (omega arith) kept.counts_keys (got_entry es k ∙ some)
 
--- each of as many zeros is 0
-zero_at : (n i : ℕ) → slice_index (zeros n) i ≡ 0
+-- each of so many zeros is 0
+zero_at : (n i : ℕ) → slice_index (replicate n 0) i ≡ 0
 zero_at zero i = refl
 zero_at (suc n) zero = refl
 zero_at (suc n) (suc i) = zero_at n i
 
 -- the counters of an object without pairs are right
-pub zero_counts : (s : Settings) → AreCounts (sizes_of s) (from_entries []) (zeros 8)
-zero_counts s = none_counts (sizes_of s) (zeros 8) (λ shard below. zero_at 8 shard)
+pub zero_counts : (s : Settings) → AreCounts (sizes_of s) (from_entries []) (replicate 8 0)
+zero_counts s = none_counts (sizes_of s) (replicate 8 0) (λ shard below. zero_at 8 shard)

@@ -1,10 +1,11 @@
 -- Histories: lists of entries, what they leave, and when each reply is the right one.
-use Rattle.std.specs.Prelude.{◌≡◌, ℕ, ◌+◌, ◌==◌, zero, suc, List, [], ◌∷◌, length, Some, slice_get}
+use Rattle.std.specs.Prelude.{◌≡◌, ℕ, ◌+◌, ◌==◌, zero, suc, List, [], ◌∷◌, length, Some, slice_get, slice_index_or}
 use Rattle.std.specs.List.{filter}
 use Rattle.seq_object.specs.declared.command.Command.{Command}
 use Rattle.seq_object.specs.declared.history.Entry.{Entry}
-use Rattle.seq_object.specs.Sizes.{Sizes}
 use Rattle.seq_object.specs.Object.{Contents, no_contents, reply_to, contents_after, room_of}
+use Rattle.seq_object.specs.declared.history.RestartPoint.{RestartPoint}
+use Rattle.seq_object.specs.declared.sizes.Sizes.{Sizes}
 
 -- the entries of one thread, in order
 abbrev pub of_thread : ℕ → List Entry → List Entry
@@ -24,32 +25,48 @@ abbrev pub IsLegal : Sizes → Contents → List Entry → Type 0
 IsLegal z c [] = Unit {0}
 IsLegal z c (e ∷ es) = (reply_to z c e.command ≡ Some e.reply) × IsLegal z (contents_after z c e.command) es
 
--- what is to be kept of a run: what the object holds, and how far each thread's script is carried out
+-- what is to be kept of a run: what the object holds, and each thread's restart point
 pub record State : Type 0 where
   pub contents : Contents
-  pub positions : List ℕ
+  pub points : List RestartPoint
 
--- these positions, the first of them thread i's, each risen by the number of its thread's entries
-abbrev pub risen_from : ℕ → List ℕ → List Entry → List ℕ
-risen_from i [] h = []
-risen_from i (p ∷ ps) h = (p + length (of_thread i h)) ∷ risen_from (suc i) ps h
+-- the restart point of a thread that has done nothing
+abbrev pub first_point : RestartPoint
+first_point = record { position = 0 }
 
--- the positions after a history
-abbrev pub positions_after : List ℕ → List Entry → List ℕ
-positions_after = risen_from 0
+-- a thread's restart point among these, and the first one where there is none
+abbrev pub point_at : List RestartPoint → ℕ → RestartPoint
+point_at points thread = slice_index_or points thread first_point
+
+-- a thread's restart point behind these entries of its own
+abbrev pub point_behind : RestartPoint → List Entry → RestartPoint
+point_behind p own = record { position = p.position + length own }
+
+-- these restart points, the first of them thread i's, each behind its thread's entries of a history
+abbrev pub points_from : ℕ → List RestartPoint → List Entry → List RestartPoint
+points_from i [] h = []
+points_from i (p ∷ ps) h = point_behind p (of_thread i h) ∷ points_from (suc i) ps h
+
+-- the restart points after a history
+abbrev pub points_after : List RestartPoint → List Entry → List RestartPoint
+points_after = points_from 0
 
 -- the state after a history
 abbrev pub after : Sizes → State → List Entry → State
-after z s h = record { contents = contents_at z s.contents h; positions = positions_after s.positions h }
+after z s h = record { contents = contents_at z s.contents h; points = points_after s.points h }
 
--- as many zeros
-abbrev pub zeros : ℕ → List ℕ
-zeros zero = []
-zeros (suc n) = 0 ∷ zeros n
+-- the restart points of so many threads that have done nothing
+abbrev pub first_points : ℕ → List RestartPoint
+first_points zero = []
+first_points (suc n) = first_point ∷ first_points n
 
 -- the state in which a start begins
 abbrev pub first_state : Sizes → State
-first_state z = record { contents = no_contents; positions = zeros z.threads }
+first_state z = record { contents = no_contents; points = first_points z.threads }
+
+-- one list of commands for each thread
+abbrev pub Scripts : Type 0
+Scripts = List (List Command)
 
 -- these entries are the commands of a script from a place on, in order, with these places as indexes
 abbrev pub AreCommands : List Command → ℕ → List Entry → Type 0

@@ -1,15 +1,15 @@
 -- The laws of the object and of histories.
-use Rattle.std.specs.Prelude.{◌≡◌, ◌↔◌, Some, ◌≢◌, ℕ, ◌+◌, ◌-◌, ◌==◌, ◌&&◌, if◌then◌else◌, is_some, is_none, ◌<◌, ◌≤◌, List, ◌++◌, length, map, take, drop, slice_index}
+use Rattle.std.specs.Prelude.{◌≡◌, ◌↔◌, Some, ◌≢◌, ℕ, ◌+◌, ◌-◌, ◌==◌, ◌&&◌, if◌then◌else◌, is_some, is_none, ◌<◌, ◌≤◌, List, ◌++◌, length, map, take, drop}
 use Rattle.std.specs.List.{All, Contains}
 use Rattle.std.specs.List.Sorted.{IsStrictlyIncreasing}
 use Rattle.std.specs.FinMap.{get, insert, remove, len}
 use Rattle.seq_object.specs.declared.command.Command.{Command}
 use Rattle.seq_object.specs.declared.history.Entry.{Entry}
 use Rattle.seq_object.specs.declared.history.Pair.{Pair}
-use Rattle.seq_object.specs.Sizes.{Sizes}
 use Rattle.seq_object.specs.Object.{Pairs, shard_of, shard_pairs, Contents, reply_to, contents_after, room_of, part_of}
-use Rattle.seq_object.specs.History.{of_thread, of_room, contents_at, IsLegal, State, after, AreCommands, counted_from, total}
+use Rattle.seq_object.specs.History.{of_thread, of_room, contents_at, IsLegal, State, point_at, point_behind, after, AreCommands, counted_from, total}
 use Rattle.seq_object.specs.Plain.{listed}
+use Rattle.seq_object.specs.declared.sizes.Sizes.{Sizes}
 
 -- a history in two pieces is legal where the first is, and the second from what the first leaves
 abbrev pub LegalInPiecesLaw : Type 0
@@ -23,10 +23,14 @@ abbrev pub AfterInPiecesLaw : Type 0
 AfterInPiecesLaw = (z : Sizes) (s : State) (xs ys : List Entry)
     → after z s (xs ++ ys) ≡ after z (after z s xs) ys
 
--- a thread's position rises by the number of its entries
-abbrev pub PositionLaw : Type 0
-PositionLaw = (z : Sizes) (s : State) (h : List Entry) (i : ℕ) → i < length s.positions
-    → slice_index (after z s h).positions i ≡ slice_index s.positions i + length (of_thread i h)
+-- a thread's restart point after a history is the one behind its own entries
+abbrev pub PointLaw : Type 0
+PointLaw = (z : Sizes) (s : State) (h : List Entry) (i : ℕ) → i < length s.points
+    → point_at (after z s h).points i ≡ point_behind (point_at s.points i) (of_thread i h)
+
+-- a history leaves as many restart points as there were
+abbrev pub PointCountLaw : Type 0
+PointCountLaw = (z : Sizes) (s : State) (h : List Entry) → length (after z s h).points ≡ length s.points
 
 -- a thread's entries in two pieces go through its script in order where the first does, and the second from where the first ends
 abbrev pub CommandsInPiecesLaw : Type 0

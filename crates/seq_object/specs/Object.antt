@@ -6,7 +6,8 @@ use Rattle.seq_object.specs.declared.command.Command.{Command}
 use Rattle.seq_object.specs.declared.command.Command.TheVariants.{Put, Get, Del, Enq, Deq, Take}
 use Rattle.seq_object.specs.declared.command.Reply.{Reply}
 use Rattle.seq_object.specs.declared.command.Reply.TheVariants.{New, Old, Full, Found, Gone, Absent, Done, Empty}
-use Rattle.seq_object.specs.Sizes.{Sizes, map_capacity, queue_capacity}
+use Rattle.seq_object.specs.Sizes.{map_capacity, queue_capacity}
+use Rattle.seq_object.specs.declared.sizes.Sizes.{Sizes}
 
 -- keys with their values
 abbrev pub Pairs : Type 0
@@ -67,6 +68,15 @@ deq_reply (item ∷ items) = Found item
 abbrev pub take_reply : List ℕ → Option Reply
 take_reply [] = None
 take_reply (item ∷ items) = Some (Found item)
+
+-- a command that never waits: any but a take
+abbrev pub IsTakeless : Command → Type 0
+IsTakeless (Put key value) = Unit {0}
+IsTakeless (Get key) = Unit {0}
+IsTakeless (Del key) = Unit {0}
+IsTakeless (Enq value) = Unit {0}
+IsTakeless Deq = Unit {0}
+IsTakeless Take = ⊥
 
 -- the reply to a command; none exactly at a take where the queue is empty
 abbrev pub reply_to : Sizes → Contents → Command → Option Reply

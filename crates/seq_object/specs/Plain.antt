@@ -7,8 +7,9 @@ use Rattle.seq_object.specs.declared.command.Command.{Command}
 use Rattle.seq_object.specs.declared.command.Command.TheVariants.{Put, Get, Del, Enq, Deq, Take}
 use Rattle.seq_object.specs.declared.history.Pair.{Pair}
 use Rattle.seq_object.specs.declared.settings.Settings.{Settings}
-use Rattle.seq_object.specs.Sizes.{Sizes, AreValid, sizes_of}
+use Rattle.seq_object.specs.Sizes.{AreValid, sizes_of}
 use Rattle.seq_object.specs.Object.{Pairs, Contents, no_contents, contents_after, shard_pairs}
+use Rattle.seq_object.specs.declared.sizes.Sizes.{Sizes}
 
 -- the sizes of an object, and what it holds
 pub record PlainState : Type 0 where

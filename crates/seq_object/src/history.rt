@@ -35,3 +35,10 @@ pub struct Pair {
     /// Any number.
     pub value: u64,
 }
+
+/// Where a thread goes on after a power failure.
+#[derive(Clone, Copy, Debug, PartialEq, Eq)]
+pub struct RestartPoint {
+    /// How many commands of the thread's script are done.
+    pub position: u64,
+}

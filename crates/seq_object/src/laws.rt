@@ -2,7 +2,7 @@
 //!
 //! A caller cites a law by calling its function. The statements are in specs/Laws, in the words of
 //! specs/Object and specs/History.
-ghost use Rattle.seq_object.specs.Laws.{LegalInPiecesLaw, AfterInPiecesLaw, PositionLaw, CommandsInPiecesLaw, RoomReplyLaw, OwnRoomLaw, OtherRoomLaw, RoomAfterLaw, RoomByRoomLaw, PrefixLaw, InOrderLaw, RoomBoundLaw, OneWholeLaw, RoomCountLaw, ThreadCountLaw, ShardPutLaw, ShardRemoveLaw, ListedLaw};
+ghost use Rattle.seq_object.specs.Laws.{LegalInPiecesLaw, AfterInPiecesLaw, PointLaw, PointCountLaw, CommandsInPiecesLaw, RoomReplyLaw, OwnRoomLaw, OtherRoomLaw, RoomAfterLaw, RoomByRoomLaw, PrefixLaw, InOrderLaw, RoomBoundLaw, OneWholeLaw, RoomCountLaw, ThreadCountLaw, ShardPutLaw, ShardRemoveLaw, ListedLaw};
 
 /// A history in two pieces is legal exactly where the first is, and the second from what it leaves.
 pub fn legal_in_pieces_law()
@@ -14,9 +14,14 @@ pub fn after_in_pieces_law()
     ensures { AfterInPiecesLaw }
 {}
 
-/// A thread's position rises by the number of its entries.
-pub fn position_law()
-    ensures { PositionLaw }
+/// A thread's restart point after a history is the one behind its own entries.
+pub fn point_law()
+    ensures { PointLaw }
+{}
+
+/// A history leaves as many restart points as there were.
+pub fn point_count_law()
+    ensures { PointCountLaw }
 {}
 
 /// A thread's entries in two pieces go through its script in order.

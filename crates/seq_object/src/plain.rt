@@ -96,13 +96,13 @@ impl Plain {
     fn is_shard_full(&self, key: u64) -> bool
         ensures { result ≡ is_shard_full self.now.sizes key self.now.contents.pairs }
     {
-        self.counts[self.shard_of(key)] >= self.settings.lines - 9
+        self.counts[self.shard_of(key)] >= self.settings.sizes().map_capacity()
     }
 
     fn is_queue_full(&self) -> bool
         ensures { result ≡ is_queue_full self.now.sizes self.now.contents.items }
     {
-        self.items.len() >= (self.settings.lines - 2) as usize
+        self.items.len() >= self.settings.sizes().queue_capacity() as usize
     }
 
     fn put(&mut self, key: u64, value: u64) -> Result<Reply, AllocError>

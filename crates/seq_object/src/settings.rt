@@ -3,6 +3,11 @@
 //! Threads, shards and lines fix the sizes of a memory; how many commands make an epoch may differ
 //! from one life of a memory to the next.
 
+use crate::sizes::Sizes;
+
+/// The greatest number of commands that a thread carries out in an epoch.
+pub const MOST_EVERY: u32 = 1_024;
+
 /// The sizes of a memory, and how many commands a thread carries out in an epoch.
 #[derive(Clone, Copy, Debug, PartialEq, Eq)]
 pub struct Settings {
@@ -17,16 +22,24 @@ pub struct Settings {
 }
 
 impl Settings {
-    ghost use Rattle.std.specs.Prelude.{IsTrue, ◌↔◌};
-    ghost use Rattle.seq_object.specs.Sizes.{IsValid};
+    ghost use Rattle.std.specs.Prelude.{IsTrue, ◌↔◌, ◌≡◌};
+    ghost use Rattle.seq_object.specs.Sizes.{IsValid, sizes_of};
+
+    /// The sizes among the settings.
+    pub fn sizes(&self) -> Sizes
+        ensures { result ≡ sizes_of self.now }
+    {
+        Sizes {
+            threads: self.threads,
+            shards: self.shards,
+            lines: self.lines,
+        }
+    }
 
     /// Whether each of these numbers is within its limits, the limits themselves included.
     pub fn valid(&self) -> bool
         ensures { IsTrue result ↔ IsValid self.now }
     {
-        (1..=16).contains(&self.threads)
-            && (1..=8).contains(&self.shards)
-            && (16..=65_536).contains(&self.lines)
-            && (1..=1_024).contains(&self.every)
+        self.sizes().valid() && (1..=MOST_EVERY).contains(&self.every)
     }
 }

@@ -1,6 +1,5 @@
 -- The history of a thread that is alone: its entries, its position, and when all of them may be marked.
 use Rattle.std.proofs.Common.{◌≡◌, ◌≢◌, ℕ, ◌+◌, ◌-◌, ◌≤◌, ◌⊎◌, zero, suc, cond, Bool, List, [], ◌∷◌, ◌++◌, length, take, drop, None, refl, sym, ap, ◌∙◌, subst, inl, inr, arith, eq-eqb, length-take-le}
-use Rattle.std.specs.Prelude.{slice_index}
 use Rattle.std.specs.List.{All}
 use Rattle.std.proofs.lemmas.Bool.{ne_eqb}
 use Rattle.std.proofs.lemmas.List.Elements.{All-head, All-tail, All-take, All-drop}
@@ -10,13 +9,14 @@ use Rattle.seq_object.specs.declared.settings.Settings.{Settings}
 use Rattle.seq_object.specs.declared.command.Command.{Command}
 use Rattle.seq_object.specs.declared.history.Entry.{Entry}
 use Rattle.seq_object.specs.Sizes.{sizes_of}
-use Rattle.seq_object.specs.History.{of_thread, risen_from, zeros, after, first_state}
-use Rattle.seq_object.proofs.Histories.{position}
-use Rattle.life_model.specs.Life.{saved, place_after, next_command, IsPause, entries_between, IsLegalLife, MayMark}
-use Rattle.life_laws.proofs.Chain.{zeros_at, length-zeros}
+use Rattle.seq_object.specs.History.{of_thread, point_at, first_points, after, first_state}
+use Rattle.seq_object.proofs.Histories.{point, point_count}
+use Rattle.life_model.specs.Life.{covered, place_after, next_command, IsPause, entries_between, IsLegalLife, MayMark, start_of, point_after}
+use Rattle.life_laws.proofs.Chain.{first_at, length-first}
 use Rattle.life_laws.proofs.Steps.{between, last_within, mark}
 use Rattle.life_laws.proofs.Ended.{may_mark}
-use Rattle.solo_life.specs.Life.{opening_with, IsDue}
+use Rattle.solo_life.specs.Life.{IsDue}
+use Rattle.seq_object.specs.declared.history.RestartPoint.{RestartPoint}
 
 -- each entry is the thread's
 abbrev pub AreOwn : List Entry → Type 0
@@ -44,31 +44,26 @@ none_other thread (e ∷ es) own =
     other_first (suc thread) e es (λ same. omega (arith, is, same)) ∙ none_other thread es (All-tail (λ x. x.thread ≡ 0) e es own)
 
 -- the thread stands behind as many commands as there are entries
-pub place_alone : (settings : Settings) (script : List Command) (h : List Entry) → AreOwn h → place_after (opening_with settings script) h 0 ≡ length h
+pub place_alone : (settings : Settings) (script : List Command) (h : List Entry) → AreOwn h → place_after (start_of settings (script ∷ [])) h 0 ≡ length h
 place_alone settings script h own =
-    let from : slice_index (zeros settings.threads) 0 ≡ 0 = zeros_at settings.threads 0 in
+    let from : (point_at (first_points settings.threads) 0).position ≡ 0 = ap (λ (p : RestartPoint). p.position) (first_at settings.threads 0) in
     let count : length (of_thread 0 h) ≡ length h = ap length (all_own h own) in
     omega (arith, from, count)
 
 -- and behind a prefix of them as many as it is long
-pub place_within : (settings : Settings) (script : List Command) (h : List Entry) (n : ℕ) → AreOwn h → n ≤ length h → place_after (opening_with settings script) (take n h) 0 ≡ n
+pub place_within : (settings : Settings) (script : List Command) (h : List Entry) (n : ℕ) → AreOwn h → n ≤ length h → place_after (start_of settings (script ∷ [])) (take n h) 0 ≡ n
 place_within settings script h n own le = place_alone settings script (take n h) (All-take (λ x. x.thread ≡ 0) n h own) ∙ length-take-le n h le
 
--- there are as many positions as before
-length-risen : (i : ℕ) (ps : List ℕ) (h : List Entry) → length (risen_from i ps h) ≡ length ps
-length-risen i [] h = refl
-length-risen i (p ∷ ps) h = ap suc (length-risen (suc i) ps h)
+-- the state after entries has a restart point for each thread
+pub points_alone : (settings : Settings) (h : List Entry) → length (after (sizes_of settings) (first_state (sizes_of settings)) h).points ≡ settings.threads
+points_alone settings h = point_count (sizes_of settings) (first_state (sizes_of settings)) h ∙ length-first settings.threads
 
--- the state after entries has a position for each thread
-pub positions_alone : (settings : Settings) (h : List Entry) → length (after (sizes_of settings) (first_state (sizes_of settings)) h).positions ≡ settings.threads
-positions_alone settings h = length-risen 0 (zeros settings.threads) h ∙ length-zeros settings.threads
-
--- the thread's position in that state
-pub position_alone : (settings : Settings) (script : List Command) (h : List Entry) → settings.threads ≡ 1
-    → slice_index (after (sizes_of settings) (first_state (sizes_of settings)) h).positions 0 ≡ place_after (opening_with settings script) h 0
-position_alone settings script h one =
-    let some : length (zeros settings.threads) ≡ 1 = length-zeros settings.threads ∙ one in
-    position (sizes_of settings) (first_state (sizes_of settings)) h 0 (omega (arith, some))
+-- the thread's restart point in that state
+pub point_alone : (settings : Settings) (script : List Command) (h : List Entry) → settings.threads ≡ 1
+    → point_at (after (sizes_of settings) (first_state (sizes_of settings)) h).points 0 ≡ point_after (start_of settings (script ∷ [])) h 0
+point_alone settings script h one =
+    let some : length (first_points settings.threads) ≡ 1 = length-first settings.threads ∙ one in
+    point (sizes_of settings) (first_state (sizes_of settings)) h 0 (omega (arith, some))
 
 -- the thread's entries since the last mark are all since then
 since_alone : (h : List Entry) (low : ℕ) → AreOwn h → low ≤ length h → low + entries_between h low (length h) 0 ≡ length h
@@ -79,35 +74,35 @@ since_alone h low own le =
     omega (arith, all, before, sum)
 
 -- where the quota is spent or the script used, all entries may be marked
-may_mark_alone : (settings : Settings) (script : List Command) (h : List Entry) (marks : List ℕ) → AreOwn h → saved marks ≤ length h
-    → entries_between h (saved marks) (length h) 0 ≤ settings.every → IsDue settings.every (length script) (saved marks) (length h)
-    → MayMark (opening_with settings script) h marks
-may_mark_alone settings script h marks own le rest due = may_mark (opening_with settings script) h marks each
+may_mark_alone : (settings : Settings) (script : List Command) (h : List Entry) (marks : List ℕ) → AreOwn h → covered marks ≤ length h
+    → entries_between h (covered marks) (length h) 0 ≤ settings.every → IsDue settings.every (length script) (covered marks) (length h)
+    → MayMark (start_of settings (script ∷ [])) h marks
+may_mark_alone settings script h marks own le rest due = may_mark (start_of settings (script ∷ [])) h marks each
   where
     -- the entries since the last mark
-    since : saved marks + entries_between h (saved marks) (length h) 0 ≡ length h
-    since = since_alone h (saved marks) own le
+    since : covered marks + entries_between h (covered marks) (length h) 0 ≡ length h
+    since = since_alone h (covered marks) own le
 
     -- a used script has no next command
-    used : length h ≡ length script → IsPause (next_command (opening_with settings script) h 0)
+    used : length h ≡ length script → IsPause (next_command (start_of settings (script ∷ [])) h 0)
     used all =
         let place = place_alone settings script h own in
-        let none : next_command (opening_with settings script) h 0 ≡ None = slice_get_past script (place_after (opening_with settings script) h 0) (omega (arith, place, all)) in
+        let none : next_command (start_of settings (script ∷ [])) h 0 ≡ None = slice_get_past script (place_after (start_of settings (script ∷ [])) h 0) (omega (arith, place, all)) in
         subst IsPause (sym none) tt
 
     -- thread by thread
-    each : (thread : ℕ) → (entries_between h (saved marks) (length h) thread ≡ 0)
-        ⊎ ((quota : ℕ) × (entries_between h (saved marks) (length h) thread + quota ≡ settings.every)
-        × ((quota ≡ 0) ⊎ IsPause (next_command (opening_with settings script) h thread)))
+    each : (thread : ℕ) → (entries_between h (covered marks) (length h) thread ≡ 0)
+        ⊎ ((quota : ℕ) × (entries_between h (covered marks) (length h) thread + quota ≡ settings.every)
+        × ((quota ≡ 0) ⊎ IsPause (next_command (start_of settings (script ∷ [])) h thread)))
     each zero = elim due.all [
       | inl full ↦ inr (0, omega (arith, since, full), inl refl)
-      | inr all ↦ inr (settings.every - entries_between h (saved marks) (length h) 0, omega (arith, rest), inr (used all))
+      | inr all ↦ inr (settings.every - entries_between h (covered marks) (length h) 0, omega (arith, rest), inr (used all))
     ]
-    each (suc thread) = inl (ap length (none_other thread (drop (saved marks) (take (length h) h))
-        (All-drop (λ x. x.thread ≡ 0) (saved marks) (take (length h) h) (All-take (λ x. x.thread ≡ 0) (length h) h own))))
+    each (suc thread) = inl (ap length (none_other thread (drop (covered marks) (take (length h) h))
+        (All-drop (λ x. x.thread ≡ 0) (covered marks) (take (length h) h) (All-take (λ x. x.thread ≡ 0) (length h) h own))))
 
 -- then a mark of all entries keeps the life legal
-pub marked_alone : (settings : Settings) (script : List Command) (h : List Entry) (marks : List ℕ) → AreOwn h → IsLegalLife (opening_with settings script) h marks
-    → IsDue settings.every (length script) (saved marks) (length h) → IsLegalLife (opening_with settings script) h (marks ++ length h ∷ [])
-marked_alone settings script h marks own legal due = mark (opening_with settings script) h marks legal
+pub marked_alone : (settings : Settings) (script : List Command) (h : List Entry) (marks : List ℕ) → AreOwn h → IsLegalLife (start_of settings (script ∷ [])) h marks
+    → IsDue settings.every (length script) (covered marks) (length h) → IsLegalLife (start_of settings (script ∷ [])) h (marks ++ length h ∷ [])
+marked_alone settings script h marks own legal due = mark (start_of settings (script ∷ [])) h marks legal
     (may_mark_alone settings script h marks own (last_within 0 marks (length h) legal.order.rising) (legal.order.rest 0) due)

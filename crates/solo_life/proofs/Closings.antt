@@ -6,17 +6,15 @@ use Rattle.std.proofs.lemmas.List.Sums.{length-filter, count_by-le-length}
 use Rattle.seq_object.specs.declared.history.Entry.{Entry}
 use Rattle.seq_object.specs.Object.{room_of}
 use Rattle.seq_object.specs.History.{of_room}
-use Rattle.line_memory.specs.Line.{BankState, bank_load, bank_fenced, unasked}
+use Rattle.line_memory.specs.Line.{BankState, bank_load, unasked}
 use Rattle.room_laws.proofs.Tests.{by_Bool}
-use Rattle.life_model.specs.Life.{sizes, saved}
+use Rattle.life_model.specs.Life.{sizes, covered}
 use Rattle.life_model.specs.Crash.{epoch_after}
-use Rattle.life_laws.specs.LifeLaws.{IsMarked}
+use Rattle.life_laws.specs.LifeLaws.{MayBeMarked}
 use Rattle.life_laws.proofs.Ended.{marked}
-use Rattle.incll_var.specs.declared.state.CellState.TheVariants.{Saved}
-use Rattle.incll_var.specs.Cells.{HasSameRoom, WritesOneBack, closing_state, epoch_of, held_at, with_state}
+use Rattle.incll_var.specs.Cells.{WritesOneBack, closing_state, with_state}
 use Rattle.restart_point.specs.Rooms.{ThreadRoomState, IsThreadRoom, with_cells}
-use Rattle.command_room.specs.declared.room.CommandRoom.{CommandRoom}
-use Rattle.command_room.specs.Room.{IsCommandRoom, contents_in, held_of, in_state, on_bank, closed}
+use Rattle.command_room.specs.Room.{IsCommandRoom, words_of, memory_words_of, in_state, on_bank, closed, CommandRoomState}
 use Rattle.solo_life.specs.declared.phase.CellRoom.{CellRoom}
 use Rattle.solo_life.specs.declared.phase.CellRoom.TheVariants as cells
 use Rattle.solo_life.specs.declared.phase.Closing.{Closing}
@@ -32,11 +30,14 @@ use Rattle.solo_life.proofs.Shutting.{closing_begun, one_written_back, fenced_ro
 use Rattle.solo_life.proofs.Own.{own_closing_begun, own_written_back, own_fenced, own_released}
 use Rattle.solo_life.proofs.EpochWrites.{epoch_released}
 use Rattle.solo_life.proofs.DoneSoFar.{saved_within, few_entries, few_marks, released_marks, released_so_far}
+use Rattle.planned_cells.specs.Planned.{memory_words_in, saved_cells}
+use Rattle.room_model.specs.Chains.{HasSameRecords, HasSameRoom}
+use Rattle.command_room.proofs.Words.{same_contents}
 
 -- a life and its phase
 
 -- the rooms of a life as they are used in this phase
-pub record AreRoomsIn (phase : Phase) (s : SoloLife) (a b : CommandRoom) (t : ThreadRoomState) (bank : BankState) : Type 0 where
+pub record AreRoomsIn (phase : Phase) (s : SoloLife) (a b : CommandRoomState) (t : ThreadRoomState) (bank : BankState) : Type 0 where
   pub map : IsWorkRoom (map_use phase) (opening_of s) (history_of s) (marks_of s) 0 a
   pub queue : IsWorkRoom (queue_use phase) (opening_of s) (history_of s) (marks_of s) 1 b
   pub thread : IsOwnRoom (own_use phase) (opening_of s) (history_of s) (marks_of s) t
@@ -44,7 +45,7 @@ pub record AreRoomsIn (phase : Phase) (s : SoloLife) (a b : CommandRoom) (t : Th
 
 -- where a life stands in this phase, by its numbers
 abbrev pub IsPlacedIn : Phase → SoloLife → Type 0
-IsPlacedIn phase s = IsPlaced phase s.settings.every (length s.script.items) (saved (marks_of s)) (length (history_of s))
+IsPlacedIn phase s = IsPlaced phase s.settings.every (length s.script.items) (covered (marks_of s)) (length (history_of s))
 
 -- what holds of the numbers of a life in a phase
 pub place_in : (s : SoloLife) (phase : Phase) → s.phase ≡ phase → IsSolo s → IsPlacedIn phase s
@@ -57,7 +58,7 @@ rooms_in s phase is solo =
     (record { map = solo.map; queue = solo.queue; thread = solo.thread; super_room = solo.super_room })
 
 -- the life with these rooms, in this phase
-abbrev pub moved : SoloLife → CommandRoom → CommandRoom → ThreadRoomState → BankState → Phase → SoloLife
+abbrev pub moved : SoloLife → CommandRoomState → CommandRoomState → ThreadRoomState → BankState → Phase → SoloLife
 moved s map queue thread super_room phase = in_phase (record s { map = map; queue = queue; thread = thread; super_room = super_room }) phase
 
 -- an event made the second life of the first
@@ -65,7 +66,7 @@ abbrev pub Goes : SoloLife → SoloLife → Type 0
 Goes old new = Follows old new × IsSolo new
 
 -- what was done so far stays, whatever the rooms are
-moved_so_far : (s : SoloLife) (map queue : CommandRoom) (thread : ThreadRoomState) (super_room : BankState) (phase : Phase) → IsDoneSoFar s → IsDoneSoFar (moved s map queue thread super_room phase)
+moved_so_far : (s : SoloLife) (map queue : CommandRoomState) (thread : ThreadRoomState) (super_room : BankState) (phase : Phase) → IsDoneSoFar s → IsDoneSoFar (moved s map queue thread super_room phase)
 moved_so_far s map queue thread super_room phase done = record {
   legal = done.legal;
   own = done.own;
@@ -77,15 +78,15 @@ moved_so_far s map queue thread super_room phase done = record {
 }
 
 -- the write-backs of these rooms
-abbrev pub flushes_in : CommandRoom → CommandRoom → ThreadRoomState → BankState → ℕ
+abbrev pub flushes_in : CommandRoomState → CommandRoomState → ThreadRoomState → BankState → ℕ
 flushes_in map queue thread super_room = map.cells.bank.write_backs + queue.cells.bank.write_backs + thread.cells.bank.write_backs + super_room.write_backs
 
 -- the stores that are left in these rooms
-abbrev pub stores_in : CommandRoom → CommandRoom → ThreadRoomState → ℕ
+abbrev pub stores_in : CommandRoomState → CommandRoomState → ThreadRoomState → ℕ
 stores_in map queue thread = length map.plan.stores + length queue.plan.stores + length thread.plan.stores
 
 -- an event that leaves the stores, and that is counted by its phase or by its write-back
-pub goes : (s : SoloLife) (before behind : Phase) (map queue : CommandRoom) (thread : ThreadRoomState) (super_room : BankState) → s.phase ≡ before → IsSolo s → IsPlacedIn behind s
+pub goes : (s : SoloLife) (before behind : Phase) (map queue : CommandRoomState) (thread : ThreadRoomState) (super_room : BankState) → s.phase ≡ before → IsSolo s → IsPlacedIn behind s
     → AreRoomsIn behind s map queue thread super_room → stores_in map queue thread ≡ stores_left s
     → flushes_of s + phase_spent before + 1 ≤ flushes_in map queue thread super_room + phase_spent behind → Goes s (moved s map queue thread super_room behind)
 goes s before behind map queue thread super_room is solo place rooms stores spent =
@@ -122,16 +123,17 @@ few_of_room s room solo =
 -- the map room
 
 -- it is locked, and its stores of the epoch end
-pub map_locked : (s : SoloLife) (n : ℕ) (new : CommandRoom) → s.phase ≡ Closes cells.Map closing.Lock → IsSolo s → unasked s.map.cells.bank.lines ≡ n
-    → new ≡ in_state s.map (closing_state n s.map.cells.state) → contents_in new ≡ contents_in s.map → held_of new ≡ held_of s.map → IsCommandRoom new
+pub map_locked : (s : SoloLife) (n : ℕ) (new : CommandRoomState) → s.phase ≡ Closes cells.Map closing.Lock → IsSolo s → unasked s.map.cells.bank.lines ≡ n
+    → new ≡ in_state s.map (closing_state n s.map.cells.state) → HasSameRecords (words_of new) (words_of s.map) → memory_words_of new ≡ memory_words_of s.map → IsCommandRoom new
     → (0 < n → Goes s (moved s new s.queue s.thread s.super_room (Closes cells.Map closing.WriteBack)))
     × (n ≡ 0 → Goes s (moved s new s.queue s.thread s.super_room (Closes cells.Map closing.Unlock)))
-map_locked s n new is solo count is_new contents held whole =
+map_locked s n new is solo count is_new words held whole =
     let place = place_in s (Closes cells.Map closing.Lock) is solo in
     let rooms = rooms_in s (Closes cells.Map closing.Lock) is solo in
+    let contents = same_contents s.map new rooms.map.whole (ap (λ (k : CommandRoomState). k.settings) is_new) (ap (λ (k : CommandRoomState). k.room) is_new) words in
     let begun = closing_begun (opening_of s) (history_of s) (marks_of s) 0 n s.map new rooms.map count is_new contents held whole in
-    let flushes : new.cells.bank.write_backs ≡ s.map.cells.bank.write_backs = ap (λ (r : CommandRoom). r.cells.bank.write_backs) is_new in
-    let stores : length new.plan.stores ≡ length s.map.plan.stores = ap (λ (r : CommandRoom). length r.plan.stores) is_new in (
+    let flushes : new.cells.bank.write_backs ≡ s.map.cells.bank.write_backs = ap (λ (r : CommandRoomState). r.cells.bank.write_backs) is_new in
+    let stores : length new.plan.stores ≡ length s.map.plan.stores = ap (λ (r : CommandRoomState). length r.plan.stores) is_new in (
       λ some. goes s (Closes cells.Map closing.Lock) (Closes cells.Map closing.WriteBack) new s.queue s.thread s.super_room is solo place
           (record { map = begun.0 some; queue = rooms.queue; thread = rooms.thread; super_room = rooms.super_room }) (omega (arith, stores)) (omega (arith, flushes)),
       λ none. goes s (Closes cells.Map closing.Lock) (Closes cells.Map closing.Unlock) new s.queue s.thread s.super_room is solo place
@@ -139,16 +141,17 @@ map_locked s n new is solo count is_new contents held whole =
     )
 
 -- a line of it is written back
-pub map_written_back : (s : SoloLife) (new : CommandRoom) → s.phase ≡ Closes cells.Map closing.WriteBack → IsSolo s → WritesOneBack s.map.cells.bank new.cells.bank
-    → new ≡ on_bank s.map new.cells.bank → unasked s.map.cells.bank.lines ≡ unasked new.cells.bank.lines + 1 → contents_in new ≡ contents_in s.map → held_of new ≡ held_of s.map → IsCommandRoom new
+pub map_written_back : (s : SoloLife) (new : CommandRoomState) → s.phase ≡ Closes cells.Map closing.WriteBack → IsSolo s → WritesOneBack s.map.cells.bank new.cells.bank
+    → new ≡ on_bank s.map new.cells.bank → unasked s.map.cells.bank.lines ≡ unasked new.cells.bank.lines + 1 → HasSameRecords (words_of new) (words_of s.map) → memory_words_of new ≡ memory_words_of s.map → IsCommandRoom new
     → (0 < unasked new.cells.bank.lines → Goes s (moved s new s.queue s.thread s.super_room (Closes cells.Map closing.WriteBack)))
     × (unasked new.cells.bank.lines ≡ 0 → Goes s (moved s new s.queue s.thread s.super_room (Closes cells.Map closing.Fence)))
-map_written_back s new is solo one is_new fewer contents held whole =
+map_written_back s new is solo one is_new fewer words held whole =
     let place = place_in s (Closes cells.Map closing.WriteBack) is solo in
     let rooms = rooms_in s (Closes cells.Map closing.WriteBack) is solo in
+    let contents = same_contents s.map new rooms.map.whole (ap (λ (k : CommandRoomState). k.settings) is_new) (ap (λ (k : CommandRoomState). k.room) is_new) words in
     let back = one_written_back (opening_of s) (history_of s) (marks_of s) 0 s.map new rooms.map one is_new fewer contents held whole (few_of_room s 0 solo) in
     let flushes : new.cells.bank.write_backs ≡ s.map.cells.bank.write_backs + 1 = back.2 in
-    let stores : length new.plan.stores ≡ length s.map.plan.stores = ap (λ (r : CommandRoom). length r.plan.stores) is_new in (
+    let stores : length new.plan.stores ≡ length s.map.plan.stores = ap (λ (r : CommandRoomState). length r.plan.stores) is_new in (
       λ some. goes s (Closes cells.Map closing.WriteBack) (Closes cells.Map closing.WriteBack) new s.queue s.thread s.super_room is solo place
           (record { map = back.0 some; queue = rooms.queue; thread = rooms.thread; super_room = rooms.super_room }) (omega (arith, stores)) (omega (arith, flushes)),
       λ none. goes s (Closes cells.Map closing.WriteBack) (Closes cells.Map closing.Fence) new s.queue s.thread s.super_room is solo place
@@ -156,30 +159,32 @@ map_written_back s new is solo one is_new fewer contents held whole =
     )
 
 -- what was written back is brought into memory
-pub map_fenced : (s : SoloLife) (new : CommandRoom) → s.phase ≡ Closes cells.Map closing.Fence → IsSolo s → new ≡ closed s.map → contents_in new ≡ contents_in s.map
-    → held_of new ≡ held_of s.map → IsCommandRoom new → Goes s (moved s new s.queue s.thread s.super_room (Closes cells.Map closing.Unlock))
-map_fenced s new is solo is_new contents held whole =
+pub map_fenced : (s : SoloLife) (new : CommandRoomState) → s.phase ≡ Closes cells.Map closing.Fence → IsSolo s → new ≡ closed s.map → HasSameRecords (words_of new) (words_of s.map)
+    → memory_words_of new ≡ memory_words_of s.map → IsCommandRoom new → Goes s (moved s new s.queue s.thread s.super_room (Closes cells.Map closing.Unlock))
+map_fenced s new is solo is_new words held whole =
     let place = place_in s (Closes cells.Map closing.Fence) is solo in
     let rooms = rooms_in s (Closes cells.Map closing.Fence) is solo in
+    let contents = same_contents s.map new rooms.map.whole (ap (λ (k : CommandRoomState). k.settings) is_new) (ap (λ (k : CommandRoomState). k.room) is_new) words in
     let shut = fenced_room (opening_of s) (history_of s) (marks_of s) 0 s.map new rooms.map is_new contents held whole in
     let flushes : new.cells.bank.write_backs ≡ s.map.cells.bank.write_backs = shut.1 in
-    let stores : length new.plan.stores ≡ length s.map.plan.stores = ap (λ (r : CommandRoom). length r.plan.stores) is_new in
+    let stores : length new.plan.stores ≡ length s.map.plan.stores = ap (λ (r : CommandRoomState). length r.plan.stores) is_new in
     goes s (Closes cells.Map closing.Fence) (Closes cells.Map closing.Unlock) new s.queue s.thread s.super_room is solo place
     (record { map = shut.0; queue = rooms.queue; thread = rooms.thread; super_room = rooms.super_room }) (omega (arith, stores)) (omega (arith, flushes))
 
 -- the queue room
 
 -- it is locked, and its stores of the epoch end
-pub queue_locked : (s : SoloLife) (n : ℕ) (new : CommandRoom) → s.phase ≡ Closes cells.Queue closing.Lock → IsSolo s → unasked s.queue.cells.bank.lines ≡ n
-    → new ≡ in_state s.queue (closing_state n s.queue.cells.state) → contents_in new ≡ contents_in s.queue → held_of new ≡ held_of s.queue → IsCommandRoom new
+pub queue_locked : (s : SoloLife) (n : ℕ) (new : CommandRoomState) → s.phase ≡ Closes cells.Queue closing.Lock → IsSolo s → unasked s.queue.cells.bank.lines ≡ n
+    → new ≡ in_state s.queue (closing_state n s.queue.cells.state) → HasSameRecords (words_of new) (words_of s.queue) → memory_words_of new ≡ memory_words_of s.queue → IsCommandRoom new
     → (0 < n → Goes s (moved s s.map new s.thread s.super_room (Closes cells.Queue closing.WriteBack)))
     × (n ≡ 0 → Goes s (moved s s.map new s.thread s.super_room (Closes cells.Queue closing.Unlock)))
-queue_locked s n new is solo count is_new contents held whole =
+queue_locked s n new is solo count is_new words held whole =
     let place = place_in s (Closes cells.Queue closing.Lock) is solo in
     let rooms = rooms_in s (Closes cells.Queue closing.Lock) is solo in
+    let contents = same_contents s.queue new rooms.queue.whole (ap (λ (k : CommandRoomState). k.settings) is_new) (ap (λ (k : CommandRoomState). k.room) is_new) words in
     let begun = closing_begun (opening_of s) (history_of s) (marks_of s) 1 n s.queue new rooms.queue count is_new contents held whole in
-    let flushes : new.cells.bank.write_backs ≡ s.queue.cells.bank.write_backs = ap (λ (r : CommandRoom). r.cells.bank.write_backs) is_new in
-    let stores : length new.plan.stores ≡ length s.queue.plan.stores = ap (λ (r : CommandRoom). length r.plan.stores) is_new in (
+    let flushes : new.cells.bank.write_backs ≡ s.queue.cells.bank.write_backs = ap (λ (r : CommandRoomState). r.cells.bank.write_backs) is_new in
+    let stores : length new.plan.stores ≡ length s.queue.plan.stores = ap (λ (r : CommandRoomState). length r.plan.stores) is_new in (
       λ some. goes s (Closes cells.Queue closing.Lock) (Closes cells.Queue closing.WriteBack) s.map new s.thread s.super_room is solo place
           (record { map = rooms.map; queue = begun.0 some; thread = rooms.thread; super_room = rooms.super_room }) (omega (arith, stores)) (omega (arith, flushes)),
       λ none. goes s (Closes cells.Queue closing.Lock) (Closes cells.Queue closing.Unlock) s.map new s.thread s.super_room is solo place
@@ -187,16 +192,17 @@ queue_locked s n new is solo count is_new contents held whole =
     )
 
 -- a line of it is written back
-pub queue_written_back : (s : SoloLife) (new : CommandRoom) → s.phase ≡ Closes cells.Queue closing.WriteBack → IsSolo s → WritesOneBack s.queue.cells.bank new.cells.bank
-    → new ≡ on_bank s.queue new.cells.bank → unasked s.queue.cells.bank.lines ≡ unasked new.cells.bank.lines + 1 → contents_in new ≡ contents_in s.queue → held_of new ≡ held_of s.queue → IsCommandRoom new
+pub queue_written_back : (s : SoloLife) (new : CommandRoomState) → s.phase ≡ Closes cells.Queue closing.WriteBack → IsSolo s → WritesOneBack s.queue.cells.bank new.cells.bank
+    → new ≡ on_bank s.queue new.cells.bank → unasked s.queue.cells.bank.lines ≡ unasked new.cells.bank.lines + 1 → HasSameRecords (words_of new) (words_of s.queue) → memory_words_of new ≡ memory_words_of s.queue → IsCommandRoom new
     → (0 < unasked new.cells.bank.lines → Goes s (moved s s.map new s.thread s.super_room (Closes cells.Queue closing.WriteBack)))
     × (unasked new.cells.bank.lines ≡ 0 → Goes s (moved s s.map new s.thread s.super_room (Closes cells.Queue closing.Fence)))
-queue_written_back s new is solo one is_new fewer contents held whole =
+queue_written_back s new is solo one is_new fewer words held whole =
     let place = place_in s (Closes cells.Queue closing.WriteBack) is solo in
     let rooms = rooms_in s (Closes cells.Queue closing.WriteBack) is solo in
+    let contents = same_contents s.queue new rooms.queue.whole (ap (λ (k : CommandRoomState). k.settings) is_new) (ap (λ (k : CommandRoomState). k.room) is_new) words in
     let back = one_written_back (opening_of s) (history_of s) (marks_of s) 1 s.queue new rooms.queue one is_new fewer contents held whole (few_of_room s 1 solo) in
     let flushes : new.cells.bank.write_backs ≡ s.queue.cells.bank.write_backs + 1 = back.2 in
-    let stores : length new.plan.stores ≡ length s.queue.plan.stores = ap (λ (r : CommandRoom). length r.plan.stores) is_new in (
+    let stores : length new.plan.stores ≡ length s.queue.plan.stores = ap (λ (r : CommandRoomState). length r.plan.stores) is_new in (
       λ some. goes s (Closes cells.Queue closing.WriteBack) (Closes cells.Queue closing.WriteBack) s.map new s.thread s.super_room is solo place
           (record { map = rooms.map; queue = back.0 some; thread = rooms.thread; super_room = rooms.super_room }) (omega (arith, stores)) (omega (arith, flushes)),
       λ none. goes s (Closes cells.Queue closing.WriteBack) (Closes cells.Queue closing.Fence) s.map new s.thread s.super_room is solo place
@@ -204,14 +210,15 @@ queue_written_back s new is solo one is_new fewer contents held whole =
     )
 
 -- what was written back is brought into memory
-pub queue_fenced : (s : SoloLife) (new : CommandRoom) → s.phase ≡ Closes cells.Queue closing.Fence → IsSolo s → new ≡ closed s.queue → contents_in new ≡ contents_in s.queue
-    → held_of new ≡ held_of s.queue → IsCommandRoom new → Goes s (moved s s.map new s.thread s.super_room (Closes cells.Queue closing.Unlock))
-queue_fenced s new is solo is_new contents held whole =
+pub queue_fenced : (s : SoloLife) (new : CommandRoomState) → s.phase ≡ Closes cells.Queue closing.Fence → IsSolo s → new ≡ closed s.queue → HasSameRecords (words_of new) (words_of s.queue)
+    → memory_words_of new ≡ memory_words_of s.queue → IsCommandRoom new → Goes s (moved s s.map new s.thread s.super_room (Closes cells.Queue closing.Unlock))
+queue_fenced s new is solo is_new words held whole =
     let place = place_in s (Closes cells.Queue closing.Fence) is solo in
     let rooms = rooms_in s (Closes cells.Queue closing.Fence) is solo in
+    let contents = same_contents s.queue new rooms.queue.whole (ap (λ (k : CommandRoomState). k.settings) is_new) (ap (λ (k : CommandRoomState). k.room) is_new) words in
     let shut = fenced_room (opening_of s) (history_of s) (marks_of s) 1 s.queue new rooms.queue is_new contents held whole in
     let flushes : new.cells.bank.write_backs ≡ s.queue.cells.bank.write_backs = shut.1 in
-    let stores : length new.plan.stores ≡ length s.queue.plan.stores = ap (λ (r : CommandRoom). length r.plan.stores) is_new in
+    let stores : length new.plan.stores ≡ length s.queue.plan.stores = ap (λ (r : CommandRoomState). length r.plan.stores) is_new in
     goes s (Closes cells.Queue closing.Fence) (Closes cells.Queue closing.Unlock) s.map new s.thread s.super_room is solo place
     (record { map = rooms.map; queue = shut.0; thread = rooms.thread; super_room = rooms.super_room }) (omega (arith, stores)) (omega (arith, flushes))
 
@@ -237,7 +244,7 @@ thread_locked s n new is solo count is_new whole =
 -- its line is written back
 pub thread_written_back : (s : SoloLife) (new : ThreadRoomState) → s.phase ≡ Closes cells.Thread closing.WriteBack → IsSolo s → WritesOneBack s.thread.cells.bank new.cells.bank
     → new ≡ with_cells s.thread (record s.thread.cells { bank = new.cells.bank }) → unasked s.thread.cells.bank.lines ≡ unasked new.cells.bank.lines + 1
-    → held_at (epoch_of s.thread.cells.state) new.cells.bank ≡ held_at (epoch_of s.thread.cells.state) s.thread.cells.bank → IsThreadRoom new
+    → memory_words_in new.cells ≡ memory_words_in s.thread.cells → IsThreadRoom new
     → (0 < unasked new.cells.bank.lines → Goes s (moved s s.map s.queue new s.super_room (Closes cells.Thread closing.WriteBack)))
     × (unasked new.cells.bank.lines ≡ 0 → Goes s (moved s s.map s.queue new s.super_room (Closes cells.Thread closing.Fence)))
 thread_written_back s new is solo one is_new fewer held whole =
@@ -255,8 +262,8 @@ thread_written_back s new is solo one is_new fewer held whole =
 
 -- what was written back is brought into memory
 pub thread_fenced : (s : SoloLife) (new : ThreadRoomState) → s.phase ≡ Closes cells.Thread closing.Fence → IsSolo s
-    → new ≡ with_cells s.thread (record s.thread.cells { bank = bank_fenced s.thread.cells.bank; state = Saved (epoch_of s.thread.cells.state) })
-    → held_at (epoch_of s.thread.cells.state) new.cells.bank ≡ held_at (epoch_of s.thread.cells.state) s.thread.cells.bank
+    → new ≡ with_cells s.thread (saved_cells s.thread.cells)
+    → memory_words_in new.cells ≡ memory_words_in s.thread.cells
     → HasSameRoom (bank_load new.cells.bank) (bank_load s.thread.cells.bank) → IsThreadRoom new
     → Goes s (moved s s.map s.queue new s.super_room (Closes cells.Thread closing.Unlock))
 thread_fenced s new is solo is_new held loads whole =
@@ -294,7 +301,7 @@ at_standing P commands kept more all =
     by_Bool (λ (b : Bool). P (if b then Standing else Over)) (nat_lt kept commands) (λ holds. more (ltb-true kept commands holds)) (λ fails. all (ltb-false kept commands fails))
 
 -- the rooms and the numbers of a life whose entries are all marked, in a phase
-record AreReleasedIn (new : SoloLife) (map queue : CommandRoom) (thread : ThreadRoomState) (super_room : BankState) (phase : Phase) : Type 0 where
+record AreReleasedIn (new : SoloLife) (map queue : CommandRoomState) (thread : ThreadRoomState) (super_room : BankState) (phase : Phase) : Type 0 where
   place : IsPlacedIn phase new
   rooms : AreRoomsIn phase new map queue thread super_room
 
@@ -308,7 +315,7 @@ record AreReleasedAt (s : SoloLife) (marks : List ℕ) : Type 0 where
 released_rooms : (s : SoloLife) → s.phase ≡ WritesEpoch epoch.Release → IsSolo s → AreReleasedAt s (marks_of s ++ length (history_of s) ∷ [])
 released_rooms s is solo =
     let rooms = rooms_in s (WritesEpoch epoch.Release) is solo in
-    let within : saved (marks_of s) ≤ length (history_of s) = saved_within s solo.done in
+    let within : covered (marks_of s) ≤ length (history_of s) = saved_within s solo.done in
     let one = solo.script.one_shard in
     record {
       map = released_room (opening_of s) (history_of s) (marks_of s) 0 s.map rooms.map within (omega (arith, one));
@@ -338,17 +345,17 @@ released s new is solo is_new is_marks room = goes_to s new made is_new (
     made : SoloLife
     made = in_phase (record s { marks = new.marks }) (standing_at (length s.script.items) (length (history_of s)))
 
-    due : IsDue s.settings.every (length s.script.items) (saved (marks_of s)) (length (history_of s))
+    due : IsDue s.settings.every (length s.script.items) (covered (marks_of s)) (length (history_of s))
     due = place_in s (WritesEpoch epoch.Release) is solo
 
     now : marks_of made ≡ marks_of s ++ length (history_of s) ∷ []
     now = released_marks s made (epoch_after (opening_of s) (marks_of s) + 1) is_marks
 
-    all : IsMarked (opening_of s) (history_of s) (marks_of s)
+    all : MayBeMarked (opening_of s) (history_of s) (marks_of s)
     all = marked (opening_of s) (history_of s) (marks_of s)
 
-    last : saved (marks_of made) ≡ length (history_of s)
-    last = ap saved now ∙ all.last
+    last : covered (marks_of made) ≡ length (history_of s)
+    last = ap covered now ∙ all.last
 
     more : length (marks_of made) ≡ length (marks_of s) + 1
     more = let count : length (marks_of made) ≡ length (marks_of s ++ length (history_of s) ∷ []) = ap length now in let next = all.epoch in omega (arith, count, next)

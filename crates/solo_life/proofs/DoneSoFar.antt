@@ -11,22 +11,22 @@ use Rattle.seq_object.specs.declared.settings.Settings.{Settings}
 use Rattle.seq_object.specs.declared.command.Command.{Command}
 use Rattle.seq_object.specs.declared.history.Entry.{Entry}
 use Rattle.seq_object.specs.Object.{reply_to}
-use Rattle.seq_object.specs.History.{of_thread}
+use Rattle.seq_object.specs.History.{of_thread, point_at, first_points}
 use Rattle.life_model.specs.declared.life.Mark.{Mark}
-use Rattle.life_model.specs.Life.{sizes, last_mark, saved, lengths, marks_from, place_after, next_command, entries_between, IsPause, IsLegalLife}
+use Rattle.life_model.specs.Life.{sizes, last_mark, covered, lengths, marks_from, place_after, next_command, entries_between, IsPause, IsLegalLife, contents_now, start_of}
 use Rattle.life_model.specs.Crash.{epoch_after}
-use Rattle.life_model.specs.Present.{contents_now}
-use Rattle.life_laws.proofs.Chain.{zeros_at}
+use Rattle.life_laws.proofs.Chain.{first_at}
 use Rattle.life_laws.proofs.Steps.{last_within, last-push, draw, mark, between}
 use Rattle.life_laws.proofs.Ended.{may_mark}
 use Rattle.command_room.specs.declared.under_way.UnderWay.{UnderWay}
 use Rattle.solo_life.specs.declared.life.SoloLife.{SoloLife}
-use Rattle.solo_life.specs.Life.{IsSoloScript, IsDue, IsDoneSoFar, opening_with, opening_of, history_of, marks_of, entry_of}
+use Rattle.solo_life.specs.Life.{IsSoloScript, IsDue, IsDoneSoFar, opening_of, history_of, marks_of, entry_of}
+use Rattle.seq_object.specs.declared.history.RestartPoint.{RestartPoint}
 
 -- how many there are
 
 -- the marks save no more than what is drawn
-pub saved_within : (s : SoloLife) → IsDoneSoFar s → saved (marks_of s) ≤ length (history_of s)
+pub saved_within : (s : SoloLife) → IsDoneSoFar s → covered (marks_of s) ≤ length (history_of s)
 saved_within s done = last_within 0 (marks_of s) (length (history_of s)) done.legal.order.rising
 
 -- few entries are drawn
@@ -54,7 +54,7 @@ pub length-marks : (s : SoloLife) → length s.marks.items ≡ length (marks_of 
 length-marks s = sym (length-map s.marks.items (λ m. m.length))
 
 -- what the last of the marks saves
-pub last_saved : (marks : List Mark) (last : Mark) → Some last ≡ slice_get marks (length marks - 1) → saved (lengths marks) ≡ last.length
+pub last_saved : (marks : List Mark) (last : Mark) → Some last ≡ slice_get marks (length marks - 1) → covered (lengths marks) ≡ last.length
 last_saved marks last is = behind 0 marks last is
   where
     behind : (low : ℕ) (marks : List Mark) (last : Mark) → Some last ≡ slice_get marks (length marks - 1) → last_mark low (lengths marks) ≡ last.length
@@ -96,35 +96,35 @@ pub between_other : (h : List Entry) (low high thread : ℕ) → thread ≢ 0 �
 between_other h low high thread other own = ap length (of_other thread (drop low (take high h)) other (All-drop (λ d. d.thread ≡ 0) low (take high h) (All-take (λ d. d.thread ≡ 0) high h own)))
 
 -- the thread's place in its script
-pub place_own : (settings : Settings) (script : List Command) (h : List Entry) → All (λ e. e.thread ≡ 0) h → place_after (opening_with settings script) h 0 ≡ length h
+pub place_own : (settings : Settings) (script : List Command) (h : List Entry) → All (λ e. e.thread ≡ 0) h → place_after (start_of settings (script ∷ [])) h 0 ≡ length h
 place_own settings script h own =
-    let opened = zeros_at settings.threads 0 in
+    let opened : (point_at (first_points settings.threads) 0).position ≡ 0 = ap (λ (p : RestartPoint). p.position) (first_at settings.threads 0) in
     let all : length (of_thread 0 h) ≡ length h = ap length (of_own h own) in
     omega (arith, opened, all)
 
 -- its next command
-pub next_own : (settings : Settings) (script : List Command) (h : List Entry) → All (λ e. e.thread ≡ 0) h → next_command (opening_with settings script) h 0 ≡ slice_get script (length h)
+pub next_own : (settings : Settings) (script : List Command) (h : List Entry) → All (λ e. e.thread ≡ 0) h → next_command (start_of settings (script ∷ [])) h 0 ≡ slice_get script (length h)
 next_own settings script h own = ap (slice_get script) (place_own settings script h own)
 
 -- another thread has none
-pub next_other : (settings : Settings) (script : List Command) (h : List Entry) (thread : ℕ) → thread ≢ 0 → next_command (opening_with settings script) h thread ≡ None
+pub next_other : (settings : Settings) (script : List Command) (h : List Entry) (thread : ℕ) → thread ≢ 0 → next_command (start_of settings (script ∷ [])) h thread ≡ None
 next_other settings script h zero other = absurd (other refl)
-next_other settings script h (suc thread) other = slice_get_past [] (place_after (opening_with settings script) h (suc thread)) (omega arith)
+next_other settings script h (suc thread) other = slice_get_past [] (place_after (start_of settings (script ∷ [])) h (suc thread)) (omega arith)
 
 -- where it has one the script has more commands than are drawn
-pub next_within : (settings : Settings) (script : List Command) (h : List Entry) (command : Command) → All (λ e. e.thread ≡ 0) h → next_command (opening_with settings script) h 0 ≡ Some command → length h < length script
+pub next_within : (settings : Settings) (script : List Command) (h : List Entry) (command : Command) → All (λ e. e.thread ≡ 0) h → next_command (start_of settings (script ∷ [])) h 0 ≡ Some command → length h < length script
 next_within settings script h command own next = slice_get_within script (length h) command (sym (next_own settings script h own) ∙ next)
 
 -- an entry is drawn
 
 -- the thread's next command with the object's reply may be its next entry
-drawn_legal : (settings : Settings) (script : List Command) (h : List Entry) (marks : List ℕ) (under : UnderWay) → IsLegalLife (opening_with settings script) h marks → All (λ e. e.thread ≡ 0) h
-    → next_command (opening_with settings script) h 0 ≡ Some under.command
-    → reply_to (sizes (opening_with settings script)) (contents_now (opening_with settings script) h) under.command ≡ Some under.reply
-    → length h < saved marks + settings.every → IsLegalLife (opening_with settings script) (h ++ entry_of (length h) under ∷ []) marks
+drawn_legal : (settings : Settings) (script : List Command) (h : List Entry) (marks : List ℕ) (under : UnderWay) → IsLegalLife (start_of settings (script ∷ [])) h marks → All (λ e. e.thread ≡ 0) h
+    → next_command (start_of settings (script ∷ [])) h 0 ≡ Some under.command
+    → reply_to (sizes (start_of settings (script ∷ []))) (contents_now (start_of settings (script ∷ [])) h) under.command ≡ Some under.reply
+    → length h < covered marks + settings.every → IsLegalLife (start_of settings (script ∷ [])) (h ++ entry_of (length h) under ∷ []) marks
 drawn_legal settings script h marks under legal own next reply quota =
-    let since : entries_between h (saved marks) (length h) 0 + saved marks ≡ length h = between_own h (saved marks) own (last_within 0 marks (length h) legal.order.rising) in
-    draw (opening_with settings script) h marks (entry_of (length h) under) legal reply (record {
+    let since : entries_between h (covered marks) (length h) 0 + covered marks ≡ length h = between_own h (covered marks) own (last_within 0 marks (length h) legal.order.rising) in
+    draw (start_of settings (script ∷ [])) h marks (entry_of (length h) under) legal reply (record {
       next = next;
       index = sym (place_own settings script h own);
       quota = omega (arith, since, quota);
@@ -133,10 +133,10 @@ drawn_legal settings script h marks under legal own next reply quota =
 
 -- what is done so far, said of its parts
 record IsDoneWith (settings : Settings) (script : List Command) (h : List Entry) (marks : List Mark) : Type 0 where
-  legal : IsLegalLife (opening_with settings script) h (lengths marks)
+  legal : IsLegalLife (start_of settings (script ∷ [])) h (lengths marks)
   own : All (λ e. e.thread ≡ 0) h
   within : length h ≤ length script
-  rising : length (lengths marks) ≤ saved (lengths marks)
+  rising : length (lengths marks) ≤ covered (lengths marks)
   numbered : marks ≡ marks_from 2 (lengths marks)
 
 -- a life with these parts, and with room for the rest, is done so far
@@ -163,7 +163,7 @@ done_with s settings script h marks with_parts is_settings is_script is_history 
 -- behind a drawn entry
 pub drawn_so_far : (old new : SoloLife) (under : UnderWay) → IsDoneSoFar old → next_command (opening_of old) (history_of old) 0 ≡ Some under.command
     → reply_to (sizes (opening_of old)) (contents_now (opening_of old) (history_of old)) under.command ≡ Some under.reply
-    → length (history_of old) < saved (marks_of old) + old.settings.every
+    → length (history_of old) < covered (marks_of old) + old.settings.every
     → history_of new ≡ history_of old ++ entry_of (length (history_of old)) under ∷ [] → vec_capacity new.history ≡ vec_capacity old.history
     → new.marks ≡ old.marks → new.settings ≡ old.settings → new.script ≡ old.script → IsDoneSoFar new
 drawn_so_far old new under done next reply quota history room marks settings script =
@@ -194,30 +194,30 @@ numbered-push epoch (m ∷ ms) n =
     ap (λ (rest : List Mark). record { epoch = epoch; length = m } ∷ rest)
     (numbered-push (suc epoch) ms n ∙ ap (λ (k : ℕ). marks_from (suc epoch) ms ++ record { epoch = k; length = n } ∷ []) (omega arith))
 
--- where entries are due to be saved all may be marked
-released_legal : (settings : Settings) (script : List Command) (h : List Entry) (marks : List ℕ) → IsLegalLife (opening_with settings script) h marks → All (λ e. e.thread ≡ 0) h
-    → IsDue settings.every (length script) (saved marks) (length h) → IsLegalLife (opening_with settings script) h (marks ++ length h ∷ [])
+-- where entries are due to be covered all may be marked
+released_legal : (settings : Settings) (script : List Command) (h : List Entry) (marks : List ℕ) → IsLegalLife (start_of settings (script ∷ [])) h marks → All (λ e. e.thread ≡ 0) h
+    → IsDue settings.every (length script) (covered marks) (length h) → IsLegalLife (start_of settings (script ∷ [])) h (marks ++ length h ∷ [])
 released_legal settings script h marks legal own due =
-    mark (opening_with settings script) h marks legal (may_mark (opening_with settings script) h marks (λ thread. elim (eqb_tells thread 0) [
-      | inl same ↦ inr (subst (λ (t : ℕ). (quota : ℕ) × (entries_between h (saved marks) (length h) t + quota ≡ settings.every)
-          × ((quota ≡ 0) ⊎ IsPause (next_command (opening_with settings script) h t))) (sym same.1) spent)
-      | inr other ↦ inl (between_other h (saved marks) (length h) thread other.1 own)
+    mark (start_of settings (script ∷ [])) h marks legal (may_mark (start_of settings (script ∷ [])) h marks (λ thread. elim (eqb_tells thread 0) [
+      | inl same ↦ inr (subst (λ (t : ℕ). (quota : ℕ) × (entries_between h (covered marks) (length h) t + quota ≡ settings.every)
+          × ((quota ≡ 0) ⊎ IsPause (next_command (start_of settings (script ∷ [])) h t))) (sym same.1) spent)
+      | inr other ↦ inl (between_other h (covered marks) (length h) thread other.1 own)
     ]))
   where
     count : ℕ
-    count = entries_between h (saved marks) (length h) 0
+    count = entries_between h (covered marks) (length h) 0
 
-    since : count + saved marks ≡ length h
-    since = between_own h (saved marks) own (last_within 0 marks (length h) legal.order.rising)
+    since : count + covered marks ≡ length h
+    since = between_own h (covered marks) own (last_within 0 marks (length h) legal.order.rising)
 
     -- at its script's end it pauses
-    paused : length h ≡ length script → IsPause (next_command (opening_with settings script) h 0)
+    paused : length h ≡ length script → IsPause (next_command (start_of settings (script ∷ [])) h 0)
     paused all = subst IsPause (sym (next_own settings script h own ∙ slice_get_past script (length h) (omega (arith, all)))) tt
 
     -- its quota is spent, or it pauses with some left
-    spent : (quota : ℕ) × (count + quota ≡ settings.every) × ((quota ≡ 0) ⊎ IsPause (next_command (opening_with settings script) h 0))
+    spent : (quota : ℕ) × (count + quota ≡ settings.every) × ((quota ≡ 0) ⊎ IsPause (next_command (start_of settings (script ∷ [])) h 0))
     spent = ⊎_elim
-        (λ (whole : length h ≡ saved marks + settings.every). (0, omega (arith, since, whole), inl refl))
+        (λ (whole : length h ≡ covered marks + settings.every). (0, omega (arith, since, whole), inl refl))
         (λ (all : length h ≡ length script). let few = legal.order.rest 0 in (settings.every - count, omega (arith, few), inr (paused all)))
         due.all
 
@@ -227,7 +227,7 @@ pub released_marks : (old new : SoloLife) (epoch : ℕ) → new.marks.items ≡ 
 released_marks old new epoch is = ap lengths is ∙ map-append (λ m. m.length) old.marks.items (record { epoch = epoch; length = length (history_of old) } ∷ [])
 
 -- behind a release
-pub released_so_far : (old new : SoloLife) → IsDoneSoFar old → IsDue old.settings.every (length old.script.items) (saved (marks_of old)) (length (history_of old))
+pub released_so_far : (old new : SoloLife) → IsDoneSoFar old → IsDue old.settings.every (length old.script.items) (covered (marks_of old)) (length (history_of old))
     → new.marks.items ≡ old.marks.items ++ record { epoch = epoch_after (opening_of old) (marks_of old) + 1; length = length (history_of old) } ∷ []
     → vec_capacity old.marks ≤ vec_capacity new.marks → new.history ≡ old.history → new.settings ≡ old.settings → new.script ≡ old.script → IsDoneSoFar new
 released_so_far old new done due marks room history settings script =
@@ -238,10 +238,10 @@ released_so_far old new done due marks room history settings script =
     let for_marks = done.marks_room in
     let same_history : vec_capacity new.history ≡ vec_capacity old.history = ap (λ v. vec_capacity v) history in
     let longer = length-push (marks_of old) (length (history_of old)) in
-    let last : saved (marks_of old ++ length (history_of old) ∷ []) ≡ length (history_of old) = last-push 0 (marks_of old) (length (history_of old)) in
+    let last : covered (marks_of old ++ length (history_of old) ∷ []) ≡ length (history_of old) = last-push 0 (marks_of old) (length (history_of old)) in
     let rising = done.rising in
     let some = due.some in
-    let more : length (marks_of old ++ length (history_of old) ∷ []) ≤ saved (marks_of old ++ length (history_of old) ∷ []) = omega (arith, longer, last, rising, some) in
+    let more : length (marks_of old ++ length (history_of old) ∷ []) ≤ covered (marks_of old ++ length (history_of old) ∷ []) = omega (arith, longer, last, rising, some) in
     let numbered : released ≡ marks_from 2 (marks_of old ++ length (history_of old) ∷ []) =
     ap (λ (ms : List Mark). ms ++ record { epoch = 1 + length (marks_of old) + 1; length = length (history_of old) } ∷ []) done.numbered
     ∙ ap (λ (k : ℕ). marks_from 2 (marks_of old) ++ record { epoch = k; length = length (history_of old) } ∷ []) (next_number (length (marks_of old)))
@@ -251,7 +251,7 @@ released_so_far old new done due marks room history settings script =
       legal = subst (IsLegalLife (opening_of old) (history_of old)) (sym now) (released_legal old.settings old.script.items (history_of old) (marks_of old) done.legal done.own due);
       own = done.own;
       within = done.within;
-      rising = subst (λ (ms : List ℕ). length ms ≤ saved ms) (sym now) more;
+      rising = subst (λ (ms : List ℕ). length ms ≤ covered ms) (sym now) more;
       numbered = numbered ∙ ap (marks_from 2) (sym now);
     }) settings (ap (λ v. v.items) script) (ap (λ v. v.items) history) marks (omega (arith, for_history, same_history)) (omega (arith, for_marks, room))
   where
@@ -269,7 +269,7 @@ pub room_to_draw : (s : SoloLife) → IsDoneSoFar s → length (history_of s) < 
 room_to_draw s done more = let for_history = done.history_room in omega (arith, for_history, more)
 
 -- where entries are not saved there is room for one more mark
-pub room_to_mark : (s : SoloLife) → IsDoneSoFar s → saved (marks_of s) < length (history_of s) → length s.marks.items < vec_capacity s.marks
+pub room_to_mark : (s : SoloLife) → IsDoneSoFar s → covered (marks_of s) < length (history_of s) → length s.marks.items < vec_capacity s.marks
 room_to_mark s done some =
     let for_marks = done.marks_room in let rising = done.rising in let within = done.within in let same = length-marks s in
     omega (arith, for_marks, rising, within, same, some)

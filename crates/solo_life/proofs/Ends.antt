@@ -6,8 +6,8 @@ use Rattle.std.proofs.lemmas.Option.{slice_get_past}
 use Rattle.seq_object.specs.declared.command.Command.{Command}
 use Rattle.seq_object.specs.declared.history.Entry.{Entry}
 use Rattle.life_model.specs.declared.life.Life.TheVariants.{Start}
-use Rattle.life_model.specs.Life.{saved, next_command}
-use Rattle.life_model.specs.Ends.{IsAllSaved}
+use Rattle.life_model.specs.Life.{covered, next_command}
+use Rattle.life_model.specs.Ends.{IsAllCovered}
 use Rattle.command_room.specs.declared.under_way.UnderWay.{UnderWay}
 use Rattle.solo_life.specs.declared.phase.WorkRoom.{WorkRoom}
 use Rattle.solo_life.specs.declared.phase.WorkRoom.TheVariants as work
@@ -28,15 +28,15 @@ empty [] none = refl
 empty (e ∷ h) none = absurd (omega (arith, none))
 
 -- where as many entries are drawn as are saved, all is saved
-all_saved : (s : SoloLife) (marks : List ℕ) → length (history_of s) ≡ saved marks → IsAllSaved (opening_of s) (history_of s) marks
+all_saved : (s : SoloLife) (marks : List ℕ) → length (history_of s) ≡ covered marks → IsAllCovered (opening_of s) (history_of s) marks
 all_saved s [] same = inr (refl, empty (history_of s) same, refl)
 all_saved s (m ∷ ms) same = inl ((λ none. absurd (cc none)), sym same)
 
 -- where a life is over it is finished
 pub over : OverLaw
 over s solo is =
-    let placed : IsPlaced Over s.settings.every (length s.script.items) (saved (marks_of s)) (length (history_of s)) =
-    subst (λ (p : Phase). IsPlaced p s.settings.every (length s.script.items) (saved (marks_of s)) (length (history_of s))) is solo.place in
+    let placed : IsPlaced Over s.settings.every (length s.script.items) (covered (marks_of s)) (length (history_of s)) =
+    subst (λ (p : Phase). IsPlaced p s.settings.every (length s.script.items) (covered (marks_of s)) (length (history_of s))) is solo.place in
     let all = placed.1 in (
       (λ thread. elim (eqb_tells thread 0) [
         | inl same ↦ subst (λ (t : ℕ). next_command (opening_of s) (history_of s) t ≡ None) (sym same.1)
@@ -80,16 +80,16 @@ used (c ∷ cs) zero none = absurd (cc none)
 used (c ∷ cs) (suc drawn) none = let rest = used cs drawn none in omega (arith, rest)
 
 -- where a life is finished all entries are saved
-saved_all : (s : SoloLife) (marks : List ℕ) → IsAllSaved (opening_of s) (history_of s) marks → length (history_of s) ≡ saved marks
+saved_all : (s : SoloLife) (marks : List ℕ) → IsAllCovered (opening_of s) (history_of s) marks → length (history_of s) ≡ covered marks
 saved_all s marks all = ⊎_elim
-    (λ (some : (marks ≢ []) × (saved marks ≡ length (history_of s))). sym some.1)
-    (λ (none : ((opening_of s).life ≡ Start) × (history_of s ≡ []) × (marks ≡ [])). ap length none.1 ∙ sym (ap saved none.2)) all
+    (λ (some : (marks ≢ []) × (covered marks ≡ length (history_of s))). sym some.1)
+    (λ (none : ((opening_of s).life ≡ Start) × (history_of s ≡ []) × (marks ≡ [])). ap length none.1 ∙ sym (ap covered none.2)) all
 
 -- elsewhere a life is not finished
 pub not_over : NotOverLaw
 not_over s solo going finished =
     let most = solo.done.within in
     let least : length s.script.items ≤ length (history_of s) = used s.script.items (length (history_of s)) (sym (next_own s.settings s.script.items (history_of s) solo.done.own) ∙ finished.0 0) in
-    only_over s.phase s.settings.every (length s.script.items) (saved (marks_of s)) (length (history_of s)) going
+    only_over s.phase s.settings.every (length s.script.items) (covered (marks_of s)) (length (history_of s)) going
     (λ under is. next_within s.settings s.script.items (history_of s) under.command solo.done.own (command_is_next s under solo is))
     solo.place (saved_all s (marks_of s) finished.1) (omega (arith, most, least))

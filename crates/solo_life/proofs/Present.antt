@@ -4,14 +4,13 @@ use Rattle.std.specs.List.{Contains}
 use Rattle.seq_object.specs.declared.history.Entry.{Entry}
 use Rattle.line_memory.specs.Line.{bank_load, load_of}
 use Rattle.room_model.specs.Chains.{RoomWords}
-use Rattle.room_model.specs.MapRoom.{map_layout}
-use Rattle.room_model.specs.Rooms.{thread_room, StandsFor}
+use Rattle.room_model.specs.MapRoom.{live_layout}
+use Rattle.room_model.specs.Rooms.{StandsFor, point_in}
 use Rattle.restart_point.specs.Rooms.{ThreadRoomState, position_of}
 use Rattle.command_room.specs.declared.under_way.UnderWay.{UnderWay}
-use Rattle.command_room.specs.declared.room.CommandRoom.{CommandRoom}
-use Rattle.life_model.specs.Life.{Opening, sizes, saved, place_after}
+use Rattle.life_model.specs.Life.{Opening, sizes, covered, contents_now, point_after}
 use Rattle.life_model.specs.Crash.{epoch_after}
-use Rattle.life_model.specs.Present.{contents_now, IsUnderWay, AreAscending}
+use Rattle.life_model.specs.Present.{IsUnderWay, AreAscending}
 use Rattle.solo_life.specs.declared.phase.WorkRoom.{WorkRoom}
 use Rattle.solo_life.specs.declared.phase.WorkRoom.TheVariants as work
 use Rattle.solo_life.specs.declared.phase.CellRoom.{CellRoom}
@@ -28,6 +27,9 @@ use Rattle.solo_life.specs.Laws.{PresentLaw}
 use Rattle.solo_life.proofs.Uses.{IsAtHome, home_stands}
 use Rattle.solo_life.proofs.Alone.{place_alone, place_within}
 use Rattle.solo_life.proofs.Safe.{rooms as rooms_of, saved_within, of_both, of_one}
+use Rattle.command_room.specs.Room.{CommandRoomState}
+use Rattle.seq_object.specs.declared.history.RestartPoint.{RestartPoint}
+use Rattle.seq_object.specs.Sizes.{thread_room}
 
 -- which room is at home
 
@@ -128,7 +130,7 @@ own_settled phases.Over free = tt
 -- what the loads say
 
 -- a command is under way in its room
-under_way : (under : UnderWay) (o : Opening) (h : List Entry) (marks : List ℕ) (room : ℕ) (s : CommandRoom) → IsWorking under o h (epoch_after o marks) room s
+under_way : (under : UnderWay) (o : Opening) (h : List Entry) (marks : List ℕ) (room : ℕ) (s : CommandRoomState) → IsWorking under o h (epoch_after o marks) room s
     → IsUnderWay o h marks room (bank_load s.cells.bank)
 under_way under o h marks room s is = record {
   thread = 0;
@@ -142,8 +144,8 @@ under_way under o h marks room s is = record {
 }
 
 -- whatever a room is used for, it stands by its loads for what the history leaves, or a command is under way in it
-room_present : (role : RoomUse) (o : Opening) (h : List Entry) (marks : List ℕ) (room : ℕ) (s : CommandRoom) → IsWorkRoom role o h marks room s
-    → StandsFor map_layout (sizes o) room (bank_load s.cells.bank) (contents_now o h) ⊎ IsUnderWay o h marks room (bank_load s.cells.bank)
+room_present : (role : RoomUse) (o : Opening) (h : List Entry) (marks : List ℕ) (room : ℕ) (s : CommandRoomState) → IsWorkRoom role o h marks room s
+    → StandsFor live_layout (sizes o) room (bank_load s.cells.bank) (contents_now o h) ⊎ IsUnderWay o h marks room (bank_load s.cells.bank)
 room_present resting o h marks room s is = inl (home_stands resting o h marks room s tt is)
 room_present (working under) o h marks room s is = inr (under_way under o h marks room s is.used)
 room_present flushing o h marks room s is = inl (home_stands flushing o h marks room s tt is)
@@ -177,7 +179,7 @@ module _ (s : SoloLife) (is : IsSolo s) where
 
   -- a room of commands stands for its part of what the history leaves
   abbrev StandsNow : ℕ → Type 0
-  StandsNow room = StandsFor map_layout (sizes (opening_of s)) room (load_of (memory_of s) room) (contents_now (opening_of s) (history_of s))
+  StandsNow room = StandsFor live_layout (sizes (opening_of s)) room (load_of (memory_of s) room) (contents_now (opening_of s) (history_of s))
 
   -- the rooms of commands that are not held
   home : (room : ℕ) → room ≤ s.settings.shards → IsFree held room → StandsNow room
@@ -193,25 +195,28 @@ module _ (s : SoloLife) (is : IsSolo s) where
       (room_present (map_use s.phase) (opening_of s) (history_of s) (marks_of s) 0 s.map is.map)
       (room_present (queue_use s.phase) (opening_of s) (history_of s) (marks_of s) 1 s.queue is.queue)
 
-  -- the position of a thread by load is that behind what is saved or behind what is drawn
-  abbrev HasPosition : ℕ → ℕ → Type 0
-  HasPosition thread position = (position ≡ place_after (opening_of s) (take (saved (marks_of s)) (history_of s)) thread) ⊎ (position ≡ place_after (opening_of s) (history_of s) thread)
+  -- the restart point of a thread by load is that behind what is covered or behind what is drawn
+  abbrev HasPoint : ℕ → RestartPoint → Type 0
+  HasPoint thread p = (p ≡ point_after (opening_of s) (take (covered (marks_of s)) (history_of s)) thread) ⊎ (p ≡ point_after (opening_of s) (history_of s) thread)
 
-  -- the thread's position
-  position_now : IsFree held 2 → HasPosition 0 (position_of s.thread)
-  position_now free = elim (own_present (own_use s.phase) (epoch_after (opening_of s) (marks_of s)) (saved (marks_of s)) (length (history_of s)) s.thread
+  -- the thread's restart point
+  position_now : IsFree held 2 → HasPoint 0 (record { position = position_of s.thread })
+  position_now free = elim (own_present (own_use s.phase) (epoch_after (opening_of s) (marks_of s)) (covered (marks_of s)) (length (history_of s)) s.thread
       (own_settled s.phase free) is.thread.used) [
-        | inl kept ↦ inl (kept ∙ sym (place_within s.settings s.script.items (history_of s) (saved (marks_of s)) is.done.own (saved_within s is)))
-        | inr drawn ↦ inr (drawn ∙ sym (place_alone s.settings s.script.items (history_of s) is.done.own))
+        | inl kept ↦ inl (ap at_place (kept ∙ sym (place_within s.settings s.script.items (history_of s) (covered (marks_of s)) is.done.own (saved_within s is))))
+        | inr drawn ↦ inr (ap at_place (drawn ∙ sym (place_alone s.settings s.script.items (history_of s) is.done.own)))
       ]
+    where
+      at_place : ℕ → RestartPoint
+      at_place n = record { position = n }
 
   -- so it is in the memory, where the thread's room is not held
-  positions : (thread : ℕ) → thread < s.settings.threads → IsFree held (thread_room (sizes (opening_of s)) thread)
-      → HasPosition thread (load_of (memory_of s) (thread_room (sizes (opening_of s)) thread) 0 0)
-  positions = of_one (opening_of s) s.map.cells.bank s.queue.cells.bank s.thread.cells.bank s.super_room (rooms_of s is)
+  points : (thread : ℕ) → thread < s.settings.threads → IsFree held (thread_room (sizes (opening_of s)) thread)
+      → HasPoint thread (point_in live_layout (load_of (memory_of s) (thread_room (sizes (opening_of s)) thread)))
+  points = of_one (opening_of s) s.map.cells.bank s.queue.cells.bank s.thread.cells.bank s.super_room (rooms_of s is)
       (λ (thread : ℕ). IsFree held (thread_room (sizes (opening_of s)) thread)
-      → HasPosition thread (load_of (memory_of s) (thread_room (sizes (opening_of s)) thread) 0 0))
-      (λ free. subst (λ (room : ℕ). IsFree held room → HasPosition 0 (load_of (memory_of s) room 0 0)) (sym at) position_now free)
+      → HasPoint thread (point_in live_layout (load_of (memory_of s) (thread_room (sizes (opening_of s)) thread))))
+      (λ free. subst (λ (room : ℕ). IsFree held room → HasPoint 0 (point_in live_layout (load_of (memory_of s) room))) (sym at) position_now free)
     where
       -- the number of the thread's room
       at : thread_room (sizes (opening_of s)) 0 ≡ 2
@@ -222,7 +227,7 @@ pub present : PresentLaw
 present s is = record {
   home = home s is;
   out = λ room le held. out s is room le;
-  positions = positions s is;
+  points = points s is;
   ascending = held_ascending (held_in s.phase);
   few = held_few (held_in s.phase) s.settings.threads is.script.one_thread;
   none = tt;

@@ -7,39 +7,39 @@ use Rattle.std.proofs.lemmas.List.Elements.{All-nil}
 use Rattle.seq_object.specs.declared.settings.Settings.{Settings}
 use Rattle.seq_object.specs.declared.command.Command.{Command}
 use Rattle.seq_object.specs.declared.history.Entry.{Entry}
-use Rattle.seq_object.specs.Sizes.{Sizes, AreValid, sizes_of}
+use Rattle.seq_object.specs.Sizes.{AreValid, sizes_of}
 use Rattle.seq_object.specs.Object.{no_contents}
 use Rattle.line_memory.specs.Line.{LineState, BankState, line_at, loaded, bank_load, bank_with_spare, quiet_line, unasked}
 use Rattle.room_model.specs.Cell.{tag_of, record_of, backup_of}
-use Rattle.room_model.specs.Chains.{RoomWords}
-use Rattle.room_model.specs.MapRoom.{map_layout}
+use Rattle.room_model.specs.Chains.{RoomWords, HasSameRecords}
+use Rattle.room_model.specs.MapRoom.{live_layout}
 use Rattle.room_model.specs.Rooms.{StandsFor}
-use Rattle.room_model.specs.Formatted.{formatted, first_node}
-use Rattle.room_laws.specs.Rooms.{HasSameRecords}
+use Rattle.room_model.specs.Formatted.{formatted, first_node, line_of_words, room_bank, line_bank}
 use Rattle.room_laws.proofs.Tests.{by_Bool}
 use Rattle.room_laws.proofs.Words.{words}
 use Rattle.room_laws.proofs.OneContents.{contents}
 use Rattle.room_laws.proofs.Formatted.{formatted_room}
 use Rattle.room_laws.proofs.MapLaws.{layouts}
-use Rattle.life_model.specs.Life.{lengths, saved, marks_from, IsLegalLife}
+use Rattle.life_model.specs.Life.{lengths, covered, marks_from, IsLegalLife, start_of}
 use Rattle.life_laws.proofs.Safe.{first_three}
 use Rattle.life_laws.proofs.Steps.{opening}
 use Rattle.incll_var.specs.declared.state.CellState.TheVariants.{Saved}
-use Rattle.incll_var.specs.Cells.{CellBankState, IsCellBank, AreSettled, cells_in, held_at}
+use Rattle.incll_var.specs.Cells.{CellBankState, IsCellBank, AreSettled, cells_in}
 use Rattle.epoch_word.specs.SuperLine.{IsSuperRoom}
 use Rattle.restart_point.specs.Rooms.{ThreadRoomState, IsThreadRoom, IsIdle, with_line_spare}
-use Rattle.command_room.specs.declared.room.CommandRoom.{CommandRoom}
 use Rattle.command_room.specs.declared.under_way.UnderWay.{UnderWay}
-use Rattle.command_room.specs.Room.{IsGoing, IsCommandRoom, MayBeRoom, new_room}
+use Rattle.command_room.specs.Room.{IsGoing, IsCommandRoom, MayBeRoom, new_room, CommandRoomState}
 use Rattle.command_room.proofs.FormattedRooms.{formatted_may}
 use Rattle.solo_life.specs.declared.phase.Phase.{Phase}
 use Rattle.solo_life.specs.declared.phase.Phase.TheVariants.{Standing, Over}
 use Rattle.solo_life.specs.declared.life.SoloLife.{SoloLife}
-use Rattle.solo_life.specs.Formatted.{room_bank, line_bank, line_of_words}
 use Rattle.solo_life.specs.Phases.{RoomUse, resting, OwnUse, unwritten, EpochUse, unstored, map_use, queue_use, own_use, epoch_use}
 use Rattle.solo_life.specs.Rooms.{IsSavedBefore, IsWorkRoom, IsOwnRoom, IsEpochRoom}
-use Rattle.solo_life.specs.Life.{IsSoloScript, IsPlaced, IsDoneSoFar, IsSolo, HasSpent, opening_with, opening_of, history_of, marks_of, standing_at}
+use Rattle.solo_life.specs.Life.{IsSoloScript, IsPlaced, IsDoneSoFar, IsSolo, HasSpent, opening_of, history_of, marks_of, standing_at}
 use Rattle.solo_life.proofs.FormatFacts.{length-room}
+use Rattle.room_model.specs.Banks.{memory_words}
+use Rattle.life_laws.proofs.Chain.{length-first}
+use Rattle.seq_object.specs.declared.sizes.Sizes.{Sizes}
 
 -- the lines of a formatted room
 
@@ -104,7 +104,7 @@ formatted_settled lines first bank some is = subst (λ (b : BankState). AreSettl
 })
 
 -- at a later epoch memory holds what loads say
-formatted_held : (lines first epoch : ℕ) → 1 ≤ lines → 0 < epoch → HasSameRecords (formatted first) (held_at epoch (room_bank lines first))
+formatted_held : (lines first epoch : ℕ) → 1 ≤ lines → 0 < epoch → HasSameRecords (memory_words epoch (room_bank lines first)) (formatted first)
 formatted_held lines first epoch some later line w few =
     let base : List ℕ = (line_at (room_bank lines first).lines line).base in
     let none : tag_of base ≡ 0 = no_tag lines first line some in
@@ -112,22 +112,22 @@ formatted_held lines first epoch some later line w few =
     ∙ first_three base w few ∙ base_word lines first line w some
 
 -- words that are those of a formatted room stand for nothing
-formatted_stands : (z : Sizes) (room first : ℕ) (r : RoomWords) → first ≤ z.lines → first_node map_layout z room ≡ first → HasSameRecords (formatted first) r → StandsFor map_layout z room r no_contents
-formatted_stands z room first r fits is same = words map_layout z room (formatted first) r no_contents layouts.in_use
-    (subst (λ (n : ℕ). StandsFor map_layout z room (formatted n) no_contents) is (formatted_room map_layout z room layouts.in_use (subst (λ (n : ℕ). n ≤ z.lines) (sym is) fits))) same
+formatted_stands : (z : Sizes) (room first : ℕ) (r : RoomWords) → first ≤ z.lines → first_node live_layout z room ≡ first → HasSameRecords r (formatted first) → StandsFor live_layout z room r no_contents
+formatted_stands z room first r fits is same = words live_layout z room (formatted first) r no_contents layouts.in_use
+    (subst (λ (n : ℕ). StandsFor live_layout z room (formatted n) no_contents) is (formatted_room live_layout z room layouts.in_use (subst (λ (n : ℕ). n ≤ z.lines) (sym is) fits))) same
 
 -- rooms that carry out commands
 
 -- the first node line of the map room
-pub first_of_map : (z : Sizes) → z.shards ≡ 1 → first_node map_layout z 0 ≡ 9
+pub first_of_map : (z : Sizes) → z.shards ≡ 1 → first_node live_layout z 0 ≡ 9
 first_of_map z one = ap (λ (b : Bool). if b then 2 else 9) (ne_eqb 0 z.shards (λ e. omega (arith, e, one)))
 
 -- and that of the queue room
-pub first_of_queue : (z : Sizes) (room : ℕ) → room ≡ z.shards → first_node map_layout z room ≡ 2
+pub first_of_queue : (z : Sizes) (room : ℕ) → room ≡ z.shards → first_node live_layout z room ≡ 2
 first_of_queue z room same = grind (arith, nat_tests, same)
 
 -- formatted cells may be a room
-pub formatted_may_be : (settings : Settings) (room first : ℕ) (bank : BankState) (cells : CellBankState) → AreValid (sizes_of settings) → room ≤ settings.shards → first_node map_layout (sizes_of settings) room ≡ first
+pub formatted_may_be : (settings : Settings) (room first : ℕ) (bank : BankState) (cells : CellBankState) → AreValid (sizes_of settings) → room ≤ settings.shards → first_node live_layout (sizes_of settings) room ≡ first
     → bank ≡ room_bank settings.lines first → cells ≡ cells_in (Saved 0) bank → IsCellBank cells → MayBeRoom settings room cells
 formatted_may_be settings room first bank cells valid within is_first is_bank is_cells whole =
     let some = valid.some_lines in
@@ -137,16 +137,16 @@ formatted_may_be settings room first bank cells valid within is_first is_bank is
     (λ line w few. formatted_load settings.lines first line w (omega (arith, some)) ∙ ap (λ (n : ℕ). formatted n line w) (sym is_first)))
 
 -- a formatted room rests, and holds what the object begins with
-pub formatted_work_room : (settings : Settings) (script : List Command) (number room first : ℕ) (s : CommandRoom) (cells : CellBankState) (bank : BankState) → AreValid (sizes_of settings)
-    → first ≤ settings.lines → first_node map_layout (sizes_of settings) room ≡ first → number ≡ room → bank ≡ room_bank settings.lines first → cells ≡ cells_in (Saved 0) bank
-    → s ≡ new_room settings number cells → IsCommandRoom s → IsWorkRoom resting (opening_with settings script) [] [] room s
+pub formatted_work_room : (settings : Settings) (script : List Command) (number room first : ℕ) (s : CommandRoomState) (cells : CellBankState) (bank : BankState) → AreValid (sizes_of settings)
+    → first ≤ settings.lines → first_node live_layout (sizes_of settings) room ≡ first → number ≡ room → bank ≡ room_bank settings.lines first → cells ≡ cells_in (Saved 0) bank
+    → s ≡ new_room settings number cells → IsCommandRoom s → IsWorkRoom resting (start_of settings (script ∷ [])) [] [] room s
 formatted_work_room settings script number room first s cells bank valid fits is_first is_number is_bank is_cells is_room whole =
-    subst (IsWorkRoom resting (opening_with settings script) [] [] room) (sym is) (record {
+    subst (IsWorkRoom resting (start_of settings (script ∷ [])) [] [] room) (sym is) (record {
       whole = subst IsCommandRoom is whole;
       settings = refl;
       number = refl;
-      held = formatted_stands z room first (held_at 1 formatted_bank) fits is_first (formatted_held settings.lines first 1 lines (omega arith));
-      used = (omega arith, record { idle = refl; contents = contents map_layout z room (bank_load formatted_bank) no_contents layouts.in_use by_loads });
+      held = formatted_stands z room first (memory_words 1 formatted_bank) fits is_first (formatted_held settings.lines first 1 lines (omega arith));
+      used = (omega arith, record { idle = refl; contents = contents live_layout z room (bank_load formatted_bank) no_contents layouts.in_use by_loads });
       few = record { made = omega arith; left = let none = none_unasked (room_words settings.lines first) in omega (arith, none) };
     })
   where
@@ -162,32 +162,32 @@ formatted_work_room settings script number room first s cells bank valid fits is
     lines : 1 ≤ settings.lines
     lines = let some = valid.some_lines in omega (arith, some)
 
-    by_loads : StandsFor map_layout z room (bank_load formatted_bank) no_contents
+    by_loads : StandsFor live_layout z room (bank_load formatted_bank) no_contents
     by_loads = formatted_stands z room first (bank_load formatted_bank) fits is_first (λ line w few. formatted_load settings.lines first line w lines)
 
 -- the thread's room and the super room
 
 -- the formatted room of the thread has position 0, and was not written
 pub formatted_own_room : (settings : Settings) (script : List Command) (t : ThreadRoomState) (cells : CellBankState) (bank : BankState) (spare : ℕ) → bank ≡ line_bank (line_of_words 0 0)
-    → cells ≡ cells_in (Saved 0) bank → t.cells ≡ with_line_spare cells spare → IsIdle t → IsThreadRoom t → IsOwnRoom unwritten (opening_with settings script) [] [] t
+    → cells ≡ cells_in (Saved 0) bank → t.cells ≡ with_line_spare cells spare → IsIdle t → IsThreadRoom t → IsOwnRoom unwritten (start_of settings (script ∷ [])) [] [] t
 formatted_own_room settings script t cells bank spare is_bank is_cells is_room idle whole =
     let is : t.cells ≡ with_line_spare (cells_in (Saved 0) (line_bank (line_of_words 0 0))) spare = is_room ∙ ap (λ (c : CellBankState). with_line_spare c spare) (is_cells ∙ ap (cells_in (Saved 0)) is_bank) in
-    let saved : IsSavedBefore 1 t.cells.state = subst (λ (c : CellBankState). IsSavedBefore 1 c.state) (sym is) (omega arith) in
+    let covered : IsSavedBefore 1 t.cells.state = subst (λ (c : CellBankState). IsSavedBefore 1 c.state) (sym is) (omega arith) in
     let position : bank_load t.cells.bank 0 0 ≡ 0 = ap (λ (c : CellBankState). bank_load c.bank 0 0) is in
     let none : t.cells.bank.write_backs ≡ 0 = ap (λ (c : CellBankState). c.bank.write_backs) is in
     record {
       whole = whole;
-      held = ap (λ (c : CellBankState). held_at 1 c.bank 0 0) is;
-      used = (saved, record { idle = idle; position = position });
+      held = ap (λ (c : CellBankState). memory_words 1 c.bank 0 0) is;
+      used = (covered, record { idle = idle; position = position });
       few = omega (arith, none);
     }
 
 -- the epoch is 1, in memory
 pub formatted_super_room : (settings : Settings) (script : List Command) (super_room bank : BankState) (spare : ℕ) → bank ≡ line_bank (line_of_words 1 0) → super_room ≡ bank_with_spare bank 0 spare
-    → IsSuperRoom super_room → IsEpochRoom unstored (opening_with settings script) [] super_room
+    → IsSuperRoom super_room → IsEpochRoom unstored (start_of settings (script ∷ [])) [] super_room
 formatted_super_room settings script super_room bank spare is_bank is_room whole =
     let is : super_room ≡ bank_with_spare (line_bank (line_of_words 1 0)) 0 spare = is_room ∙ ap (λ (b : BankState). bank_with_spare b 0 spare) is_bank in
-    subst (IsEpochRoom unstored (opening_with settings script) []) (sym is) (record {
+    subst (IsEpochRoom unstored (start_of settings (script ∷ [])) []) (sym is) (record {
       whole = subst IsSuperRoom is whole;
       used = (record { held = refl; quiet = refl }, refl);
       few = omega arith;
@@ -216,7 +216,7 @@ new_so_far s new =
     let no_mark : length (marks_of s) ≡ 0 = ap length none in
     record {
       legal = subst (λ (h : List Entry). IsLegalLife (opening_of s) h (marks_of s)) (sym new.history)
-          (subst (IsLegalLife (opening_of s) []) (sym none) (opening (opening_of s) (sym new.script.one_thread) (refl, refl)));
+          (subst (IsLegalLife (opening_of s) []) (sym none) (opening (opening_of s) (sym new.script.one_thread) (length-first s.settings.threads) (refl, refl)));
       own = subst (All (λ e. e.thread ≡ 0)) (sym new.history) (All-nil (λ (e : Entry). e.thread ≡ 0));
       within = omega (arith, no_entry);
       rising = omega (arith, no_mark);
@@ -243,8 +243,8 @@ new_solo s new =
     record {
       script = new.script;
       done = new_so_far s new;
-      place = subst (λ (p : Phase). IsPlaced p s.settings.every n (saved (marks_of s)) (length (history_of s))) (sym new.phase)
-          (subst (λ (kept : ℕ). IsPlaced (standing_at n 0) s.settings.every n kept (length (history_of s))) (ap saved none)
+      place = subst (λ (p : Phase). IsPlaced p s.settings.every n (covered (marks_of s)) (length (history_of s))) (sym new.phase)
+          (subst (λ (kept : ℕ). IsPlaced (standing_at n 0) s.settings.every n kept (length (history_of s))) (ap covered none)
           (subst (λ (drawn : ℕ). IsPlaced (standing_at n 0) s.settings.every n 0 drawn) (ap length empty) (new_placed s.settings.every n)));
       map = subst (λ (role : RoomUse). IsWorkRoom role (opening_of s) (history_of s) (marks_of s) 0 s.map) (in_either map_use resting n refl refl ∙ sym (ap map_use new.phase))
           (work_room 0 s.map new.map);
@@ -257,7 +257,7 @@ new_solo s new =
           (subst (λ (ms : List ℕ). IsEpochRoom unstored (opening_of s) ms s.super_room) none new.super_room);
     }
   where
-    work_room : (room : ℕ) (k : CommandRoom) → IsWorkRoom resting (opening_of s) [] [] room k → IsWorkRoom resting (opening_of s) (history_of s) (marks_of s) room k
+    work_room : (room : ℕ) (k : CommandRoomState) → IsWorkRoom resting (opening_of s) [] [] room k → IsWorkRoom resting (opening_of s) (history_of s) (marks_of s) room k
     work_room room k rests =
         subst (λ (h : List Entry). IsWorkRoom resting (opening_of s) h (marks_of s) room k) (sym new.history)
         (subst (λ (ms : List ℕ). IsWorkRoom resting (opening_of s) [] ms room k) (sym (ap lengths new.marks)) rests)
@@ -270,5 +270,5 @@ new_spent s new =
     let thread : length s.thread.plan.stores ≡ 0 = ap length new.thread.used.1.idle in
     omega (arith, map, queue, thread)
   where
-    no_store : (k : CommandRoom) → IsCommandRoom k → k.under_way ≡ None → k.plan.stores ≡ []
+    no_store : (k : CommandRoomState) → IsCommandRoom k → k.under_way ≡ None → k.plan.stores ≡ []
     no_store k whole idle = subst (λ (u : Option UnderWay). IsGoing u k.cells.state k.plan.stores k.history.spare) idle whole.going

@@ -1,15 +1,14 @@
 -- How many write-backs a life makes and how many turns it has.
 use Rattle.std.proofs.Common.{◌≡◌, ℕ, ◌+◌, ◌-◌, ◌*◌, ◌<◌, ◌≤◌, ◌^◌, zero, suc, List, [], ◌∷◌, length, refl, ap, ◌∙◌, subst, arith, min}
 use Rattle.seq_object.specs.declared.history.Entry.{Entry}
-use Rattle.seq_object.specs.Sizes.{Sizes}
+use Rattle.seq_object.specs.Sizes.{thread_room, super_room, room_count}
 use Rattle.seq_object.specs.History.{of_room, total}
 use Rattle.seq_object.proofs.Totals.{room_count as count_rooms}
 use Rattle.line_memory.specs.Line.{BankState, all_write_backs}
-use Rattle.room_model.specs.Image.{Image}
-use Rattle.room_model.specs.Rooms.{thread_room, super_room, room_count}
+use Rattle.room_model.specs.Image.{ImageRooms}
 use Rattle.life_model.specs.declared.life.Life.TheVariants.{Start}
 use Rattle.life_model.specs.Life.{Opening, sizes, closings}
-use Rattle.life_model.specs.Work.{IsFlushedLittle, opening_write_backs}
+use Rattle.life_model.specs.Work.{WritesFewBack, recovery_write_backs}
 use Rattle.life_laws.proofs.Works.{flushed_little}
 use Rattle.solo_life.specs.declared.phase.CellRoom.{CellRoom}
 use Rattle.solo_life.specs.declared.phase.CellRoom.TheVariants as cells
@@ -25,6 +24,7 @@ use Rattle.solo_life.specs.Rooms.{AreOwnFlushesFew, AreEpochFlushesFew}
 use Rattle.solo_life.specs.Life.{IsSolo, opening_of, history_of, marks_of, memory_of, flushes_of}
 use Rattle.solo_life.specs.Laws.{FlushedLaw, EnoughLaw}
 use Rattle.solo_life.proofs.DoneSoFar.{marks_within}
+use Rattle.seq_object.specs.declared.sizes.Sizes.{Sizes}
 
 -- write-backs
 
@@ -82,12 +82,13 @@ four_banks a b c d = four a.write_backs b.write_backs c.write_backs d.write_back
         omega (arith, first, second, third, fourth)
 
 -- few write-backs by room are few in all
-few_by_room : (o : Opening) (image : Image) (h : List Entry) (marks : List ℕ) (a b c d : ℕ) → o.life ≡ Start → o.settings.shards ≡ 1 → o.settings.threads ≡ 1
+few_by_room : (o : Opening) (image : ImageRooms) (h : List Entry) (marks : List ℕ) (a b c d : ℕ) → o.life ≡ Start → o.settings.shards ≡ 1 → o.settings.threads ≡ 1
     → a ≤ 4 * length (of_room (sizes o) 0 h) → b ≤ 4 * length (of_room (sizes o) 1 h) → c ≤ length marks + 1 → d ≤ length marks + 1
-    → (flushed : ℕ) → flushed ≤ a + b + c + d → IsFlushedLittle o image h marks flushed
+    → (flushed : ℕ) → flushed ≤ a + b + c + d → WritesFewBack o image h marks flushed
 few_by_room o image h marks a b c d start one_shard one_thread map queue thread super_line flushed few =
-    let closed : closings o.life marks ≡ length marks = ap (λ l. closings l marks) start in
-    let all : IsFlushedLittle o image h marks (opening_write_backs o.life (sizes o) image + total (by_room a b c d) (room_count (sizes o))) =
+    let closed : closings o marks ≡ length marks = ap (λ l. closings (record o { life = l }) marks) start in
+    let none : recovery_write_backs o image ≡ 0 = ap (λ l. recovery_write_backs (record o { life = l }) image) start in
+    let all : WritesFewBack o image h marks (recovery_write_backs o image + total (by_room a b c d) (room_count (sizes o))) =
     flushed_little o image h marks (by_room a b c d) (omega (arith, one_shard)) rooms threads last in
     let sum : total (by_room a b c d) (room_count (sizes o)) ≡ a + b + c + d =
     ap (total (by_room a b c d)) (counted o.settings.shards o.settings.threads one_shard one_thread) ∙ plain a b c d in
@@ -104,17 +105,17 @@ few_by_room o image h marks a b c d start one_shard one_thread map queue thread 
     rooms (suc zero) le = queue
     rooms (suc (suc room)) le = absurd (omega (arith, le, one_shard))
 
-    behind : closings o.life marks ≡ length marks
-    behind = ap (λ l. closings l marks) start
+    behind : closings o marks ≡ length marks
+    behind = ap (λ l. closings (record o { life = l }) marks) start
 
-    threads : (t : ℕ) → t < o.settings.threads → by_room a b c d (thread_room (sizes o) t) ≤ closings o.life marks + 1
-    threads t lt = subst (λ (room : ℕ). by_room a b c d room ≤ closings o.life marks + 1) (own_room o.settings.shards o.settings.threads t one_shard one_thread lt) (omega (arith, thread, behind))
+    threads : (t : ℕ) → t < o.settings.threads → by_room a b c d (thread_room (sizes o) t) ≤ closings o marks + 1
+    threads t lt = subst (λ (room : ℕ). by_room a b c d room ≤ closings o marks + 1) (own_room o.settings.shards o.settings.threads t one_shard one_thread lt) (omega (arith, thread, behind))
       where
         own_room : (shards threads t : ℕ) → shards ≡ 1 → threads ≡ 1 → t < threads → 2 ≡ shards + 1 + t
         own_room shards threads t one_shard one_thread lt = omega (arith, one_shard, one_thread, lt)
 
-    last : by_room a b c d (super_room (sizes o)) ≤ closings o.life marks + 1
-    last = subst (λ (room : ℕ). by_room a b c d room ≤ closings o.life marks + 1) (super_number o.settings.shards o.settings.threads one_shard one_thread) (omega (arith, super_line, behind))
+    last : by_room a b c d (super_room (sizes o)) ≤ closings o marks + 1
+    last = subst (λ (room : ℕ). by_room a b c d room ≤ closings o marks + 1) (super_number o.settings.shards o.settings.threads one_shard one_thread) (omega (arith, super_line, behind))
       where
         super_number : (shards threads : ℕ) → shards ≡ 1 → threads ≡ 1 → 3 ≡ shards + 1 + threads
         super_number shards threads one_shard one_thread = omega (arith, one_shard, one_thread)

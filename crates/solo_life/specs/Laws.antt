@@ -2,12 +2,12 @@
 -- lines back; and turns enough finish it.
 use Rattle.std.specs.Prelude.{◌≡◌, ◌≢◌, ℕ, ◌+◌, ◌*◌, ◌<◌, length}
 use Rattle.line_memory.specs.Line.{all_write_backs}
-use Rattle.room_model.specs.Image.{Image}
+use Rattle.room_model.specs.Image.{ImageRooms}
 use Rattle.life_model.specs.declared.life.Outcome.TheVariants.{Cut}
 use Rattle.life_model.specs.Ends.{IsFinished, EndsAs}
 use Rattle.life_model.specs.Crash.{IsCrashSafe}
 use Rattle.life_model.specs.Present.{IsPresent}
-use Rattle.life_model.specs.Work.{IsFlushedLittle}
+use Rattle.life_model.specs.Work.{WritesFewBack}
 use Rattle.solo_life.specs.declared.phase.Phase.TheVariants.{Over}
 use Rattle.solo_life.specs.declared.life.SoloLife.{SoloLife}
 use Rattle.solo_life.specs.Phases.{held_in}
@@ -23,7 +23,7 @@ PresentLaw = (s : SoloLife) → IsSolo s → IsPresent (opening_of s) (history_o
 
 -- few lines were written back
 abbrev pub FlushedLaw : Type 0
-FlushedLaw = (s : SoloLife) (image : Image) → IsSolo s → IsFlushedLittle (opening_of s) image (history_of s) (marks_of s) (all_write_backs (memory_of s))
+FlushedLaw = (s : SoloLife) (image : ImageRooms) → IsSolo s → WritesFewBack (opening_of s) image (history_of s) (marks_of s) (all_write_backs (memory_of s))
 
 -- the life is over where it is finished, and nowhere else
 abbrev pub OverLaw : Type 0

@@ -1,4 +1,3 @@
-pub mod Formatted
 pub mod Phases
 pub mod Rooms
 pub mod Life

@@ -2,31 +2,25 @@
 use Rattle.std.specs.Prelude.{◌≡◌, ◌≢◌, ℕ, ◌+◌, ◌*◌, ◌<◌, ◌≤◌, ◌⊎◌, nat_lt, if◌then◌else◌, Option, Some, None, List, [], ◌∷◌, length, vec_capacity, All}
 use Rattle.seq_object.specs.declared.settings.Settings.{Settings}
 use Rattle.seq_object.specs.declared.command.Command.{Command}
-use Rattle.seq_object.specs.declared.command.Command.TheVariants.{Put, Get, Del, Enq, Deq, Take}
 use Rattle.seq_object.specs.declared.command.Reply.{Reply}
 use Rattle.seq_object.specs.declared.history.Entry.{Entry}
-use Rattle.seq_object.specs.Sizes.{sizes_of, IsValid}
-use Rattle.seq_object.specs.History.{first_state}
+use Rattle.seq_object.specs.Sizes.{IsValid}
 use Rattle.line_memory.specs.Line.{BankState, counted}
 use Rattle.life_model.specs.declared.life.Outcome.{Outcome}
 use Rattle.life_model.specs.declared.life.Outcome.TheVariants.{Finished, Stalled, Cut, Starved}
-use Rattle.life_model.specs.declared.life.Life.TheVariants.{Start}
-use Rattle.life_model.specs.Life.{Opening, saved, lengths, marks_from, next_command, IsLegalLife}
+use Rattle.life_model.specs.Life.{Opening, covered, lengths, next_command, IsLegalLife, start_of, reported}
 use Rattle.command_room.specs.declared.under_way.UnderWay.{UnderWay}
-use Rattle.command_room.specs.declared.room.CommandRoom.{CommandRoom}
 use Rattle.solo_life.specs.declared.phase.Phase.{Phase}
 use Rattle.solo_life.specs.declared.phase.Phase.TheVariants.{Standing, Running, Commanding, Drawn, Writing, Written, Stood, Closing, EpochWrite, Over}
 use Rattle.solo_life.specs.declared.life.SoloLife.{SoloLife}
 use Rattle.solo_life.specs.Phases.{resting, working, map_use, queue_use, own_use, epoch_use, phase_spent}
 use Rattle.solo_life.specs.Rooms.{IsWorkRoom, IsOwnRoom, IsEpochRoom}
-
--- a start of one thread with this script
-abbrev pub opening_with : Settings → List Command → Opening
-opening_with settings script = record { settings = settings; scripts = script ∷ []; life = Start; epoch = 1; state = first_state (sizes_of settings) }
+use Rattle.command_room.specs.Room.{CommandRoomState}
+use Rattle.seq_object.specs.Object.{IsTakeless}
 
 -- how the life began
 abbrev pub opening_of : SoloLife → Opening
-opening_of s = opening_with s.settings s.script.items
+opening_of s = start_of s.settings (s.script.items ∷ [])
 
 -- the entries that are drawn
 abbrev pub history_of : SoloLife → List Entry
@@ -45,22 +39,13 @@ abbrev pub held_rooms : Option ℕ → List ℕ
 held_rooms None = []
 held_rooms (Some room) = room ∷ []
 
--- commands that a thread alone never waits at: all but a take
-abbrev pub IsNoTake : Command → Type 0
-IsNoTake (Put key value) = Unit {0}
-IsNoTake (Get key) = Unit {0}
-IsNoTake (Del key) = Unit {0}
-IsNoTake (Enq value) = Unit {0}
-IsNoTake Deq = Unit {0}
-IsNoTake Take = ⊥
-
 -- a script of one thread, over one shard
 pub record IsSoloScript (settings : Settings) (script : List Command) : Type 0 where
   pub valid : IsValid settings
   pub one_thread : settings.threads ≡ 1
   pub one_shard : settings.shards ≡ 1
   pub few : length script ≤ 4096
-  pub no_take : All IsNoTake script
+  pub no_take : All IsTakeless script
 
 -- the entry of a command of the thread, at this place of its script
 abbrev pub entry_of : ℕ → UnderWay → Entry
@@ -93,8 +78,8 @@ pub record IsDoneSoFar (s : SoloLife) : Type 0 where
   pub legal : IsLegalLife (opening_of s) (history_of s) (marks_of s)
   pub own : All (λ e. e.thread ≡ 0) (history_of s)
   pub within : length (history_of s) ≤ length s.script.items
-  pub rising : length (marks_of s) ≤ saved (marks_of s)
-  pub numbered : s.marks.items ≡ marks_from 2 (marks_of s)
+  pub rising : length (marks_of s) ≤ covered (marks_of s)
+  pub numbered : s.marks.items ≡ reported (opening_of s) (marks_of s)
   pub history_room : length s.script.items ≤ vec_capacity s.history
   pub marks_room : length s.script.items ≤ vec_capacity s.marks
 
@@ -102,7 +87,7 @@ pub record IsDoneSoFar (s : SoloLife) : Type 0 where
 pub record IsSolo (s : SoloLife) : Type 0 where
   pub script : IsSoloScript s.settings s.script.items
   pub done : IsDoneSoFar s
-  pub place : IsPlaced s.phase s.settings.every (length s.script.items) (saved (marks_of s)) (length (history_of s))
+  pub place : IsPlaced s.phase s.settings.every (length s.script.items) (covered (marks_of s)) (length (history_of s))
   pub map : IsWorkRoom (map_use s.phase) (opening_of s) (history_of s) (marks_of s) 0 s.map
   pub queue : IsWorkRoom (queue_use s.phase) (opening_of s) (history_of s) (marks_of s) 1 s.queue
   pub thread : IsOwnRoom (own_use s.phase) (opening_of s) (history_of s) (marks_of s) s.thread
@@ -146,23 +131,23 @@ pub record IsGivenUp (old new : SoloLife) : Type 0 where
 -- a command is the thread's next, and there is quota for it
 pub record MayBegin (s : SoloLife) (command : Command) : Type 0 where
   pub next : next_command (opening_of s) (history_of s) 0 ≡ Some command
-  pub quota : length (history_of s) < saved (marks_of s) + s.settings.every
+  pub quota : length (history_of s) < covered (marks_of s) + s.settings.every
 
 -- no command may begin before the position is written
 abbrev pub IsDueNow : SoloLife → Type 0
-IsDueNow s = IsDue s.settings.every (length s.script.items) (saved (marks_of s)) (length (history_of s))
+IsDueNow s = IsDue s.settings.every (length s.script.items) (covered (marks_of s)) (length (history_of s))
 
 -- a command with its reply
 abbrev pub under_of : Command → Reply → UnderWay
 under_of command reply = record { command = command; reply = reply }
 
 -- this command is begun in a room of the life: it has at most 22 stores
-pub record IsBegun (s : SoloLife) (room : ℕ) (under : UnderWay) (new : CommandRoom) : Type 0 where
+pub record IsBegun (s : SoloLife) (room : ℕ) (under : UnderWay) (new : CommandRoomState) : Type 0 where
   pub working_room : IsWorkRoom (working under) (opening_of s) (history_of s) (marks_of s) room new
   pub stores : length new.plan.stores ≤ 22
 
 -- no command is begun in a room of the life
-abbrev pub IsResting : SoloLife → ℕ → CommandRoom → Type 0
+abbrev pub IsResting : SoloLife → ℕ → CommandRoomState → Type 0
 IsResting s room new = IsWorkRoom resting (opening_of s) (history_of s) (marks_of s) room new × (new.plan.stores ≡ [])
 
 -- the outcome of a life that had so many turns: it is over, or as many events were done and it is not, or memory ran out

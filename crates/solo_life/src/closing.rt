@@ -9,6 +9,7 @@ ghost use Rattle.solo_life.specs.Life.{IsSolo, Follows};
 use crate::life::{SoloLife, standing};
 use crate::phase::{CellRoom, Closing, EpochWrite, Phase};
 use life_model::Mark;
+use planned_cells::CellRoom as _;
 
 /// Does the next event of the closing of a room of cells.
 pub fn close(life: &mut SoloLife, room: CellRoom, closing: Closing)

@@ -15,7 +15,6 @@
 #![tactic(auto)]
 
 mod closing;
-mod format;
 mod laws;
 mod life;
 mod phase;

@@ -1,26 +1,31 @@
 //! The life of one thread over one shard: its rooms, what is done, and where it stands.
 
-ghost use Rattle.std.specs.Prelude.{◌≡◌, ◌+◌, ◌<◌, ◌⊎◌, ◌++◌, ◌∷◌, ◌↔◌, [], Some, None, length, IfOk, IsTrue, vec_capacity};
-ghost use Rattle.life_model.specs.Life.{saved as entries_saved, next_command as script_next};
+ghost use Rattle.std.specs.Prelude.{◌≡◌, ◌+◌, ◌<◌, ◌⊎◌, ◌++◌, ◌∷◌, ◌↔◌, [], Some, None, List, length, IfOk, IsTrue, vec_capacity};
+ghost use Rattle.seq_object.specs.declared.command.Command.{Command as CommandValue};
+ghost use Rattle.seq_object.specs.declared.settings.Settings.{Settings as SettingsValue};
+ghost use Rattle.seq_object.specs.Sizes.{AreValid, sizes_of};
+ghost use Rattle.room_model.specs.Formatted.{line_bank, line_of_words, room_bank};
+ghost use Rattle.life_model.specs.Life.{covered as entries_saved, next_command as script_next, start_of};
 ghost use Rattle.life_model.specs.Crash.{epoch_after};
 ghost use Rattle.solo_life.specs.declared.phase.Phase.TheVariants.{Over};
+ghost use Rattle.solo_life.specs.Phases.{resting, unwritten, unstored};
+ghost use Rattle.solo_life.specs.Rooms.{IsWorkRoom, IsOwnRoom, IsEpochRoom};
 ghost use Rattle.solo_life.specs.Life.{IsSolo, IsSoloScript, IsDoneSoFar, HasSpent, opening_of, history_of, marks_of, memory_of, entry_of, standing_at, in_phase};
 
-use crate::format::format;
 use crate::phase::Phase;
 use command_room::UnderWay;
 use epoch_word::SuperRoom;
+use formatting::format;
 use incll_var::CellBank;
 use life_model::Mark;
-use line_memory::Memory;
+use line_memory::{Bank, Memory};
 use locked_map::MapRoom;
 use locked_queue::QueueRoom;
+use planned_cells::CellRoom as _;
 use restart_point::{ThreadEnd, ThreadRoom};
+use room_model::FIRST_EPOCH;
 use seq_object::{Command, Entry, Settings};
 use std::alloc::{AllocError, Global};
-
-/// The epoch in which a start begins.
-const FIRST_EPOCH: u32 = 1;
 
 /// A life of one thread, between two events.
 #[derive(Drop)]
@@ -59,20 +64,21 @@ impl SoloLife {
         ensures spent { IfOk result (λ life. HasSpent 0 life) }
         ensures solo { IfOk result (λ life. IsSolo life) }
     {
-        let mut banks = format(alloc, &settings)?.into_banks();
-        let map = CellBank::clean(alloc, banks.remove(0), 0);
-        let queue = CellBank::clean(alloc, banks.remove(0), 0);
-        let thread = CellBank::clean(alloc, banks.remove(0), 0);
-        let super_room = SuperRoom::of(banks.remove(0))?;
         let history = Vec::with_capacity(alloc, script.len())?;
         let marks = Vec::with_capacity(alloc, script.len())?;
+        let Rooms {
+            map,
+            queue,
+            thread,
+            super_room,
+        } = formatted_rooms(alloc, settings)?;
         let phase = standing(script.len(), 0);
         Ok(SoloLife {
             settings,
             script,
-            map: MapRoom::of(alloc, map, settings, 0),
-            queue: QueueRoom::of(alloc, queue, settings),
-            thread: ThreadRoom::of(alloc, thread, ThreadEnd::Ready)?,
+            map,
+            queue,
+            thread,
             super_room,
             history,
             marks,
@@ -159,12 +165,78 @@ impl SoloLife {
         ensures marks { IfOk result (λ parts. parts.2 ≡ self.marks) }
     {
         let mut banks = Vec::with_capacity(alloc, 4)?;
-        banks.push(self.map.into_cells().into_bank())?;
-        banks.push(self.queue.into_cells().into_bank())?;
-        banks.push(self.thread.into_cells().into_bank())?;
+        banks.push(self.map.into_bank())?;
+        banks.push(self.queue.into_bank())?;
+        banks.push(self.thread.into_bank())?;
         banks.push(self.super_room.into_bank())?;
         Ok((Memory::of(banks), self.history, self.marks))
     }
+}
+
+/// The rooms of a life.
+#[derive(Drop)]
+struct Rooms {
+    map: MapRoom,
+    queue: QueueRoom,
+    thread: ThreadRoom,
+    super_room: SuperRoom,
+}
+
+/// The rooms of formatted memory, as a life begins with them, whatever its script. Want of memory is the one refusal.
+fn formatted_rooms(alloc: Global, settings: Settings) -> Result<Rooms, AllocError>
+    requires valid { AreValid (sizes_of settings) }
+    requires one_thread { settings.threads ≡ 1 }
+    requires one_shard { settings.shards ≡ 1 }
+    ensures map { IfOk result (λ rooms. (script : List CommandValue) → IsWorkRoom resting (start_of settings (script ∷ [])) [] [] 0 rooms.map) }
+    ensures queue { IfOk result (λ rooms. (script : List CommandValue) → IsWorkRoom resting (start_of settings (script ∷ [])) [] [] 1 rooms.queue) }
+    ensures thread { IfOk result (λ rooms. (script : List CommandValue) → IsOwnRoom unwritten (start_of settings (script ∷ [])) [] [] rooms.thread) }
+    ensures super_room { IfOk result (λ rooms. (script : List CommandValue) → IsEpochRoom unstored (start_of settings (script ∷ [])) [] rooms.super_room) }
+{
+    let mut banks = format(alloc, &settings)?.into_banks();
+    let map_bank = banks.remove(0);
+    let queue_bank = banks.remove(0);
+    let thread_bank = banks.remove(0);
+    let super_room = SuperRoom::of(banks.remove(0))?;
+    let thread = own_room(alloc, thread_bank)?;
+    let (map, queue) = work_rooms(alloc, map_bank, queue_bank, settings)?;
+    Ok(Rooms {
+        map,
+        queue,
+        thread,
+        super_room,
+    })
+}
+
+/// The rooms that carry out commands, of their formatted banks. Want of memory is the one refusal.
+fn work_rooms(
+    alloc: Global,
+    map_bank: Bank,
+    queue_bank: Bank,
+    settings: Settings,
+) -> Result<(MapRoom, QueueRoom), AllocError>
+    requires valid { AreValid (sizes_of settings) }
+    requires one_shard { settings.shards ≡ 1 }
+    requires map { map_bank ≡ room_bank settings.lines 9 }
+    requires queue { queue_bank ≡ room_bank settings.lines 2 }
+    ensures map { IfOk result (λ rooms. (script : List CommandValue) → IsWorkRoom resting (start_of settings (script ∷ [])) [] [] 0 rooms.0) }
+    ensures queue { IfOk result (λ rooms. (script : List CommandValue) → IsWorkRoom resting (start_of settings (script ∷ [])) [] [] 1 rooms.1) }
+{
+    let map = CellBank::clean(alloc, map_bank, 0)?;
+    let queue = CellBank::clean(alloc, queue_bank, 0)?;
+    Ok((
+        MapRoom::of(alloc, map, settings, 0),
+        QueueRoom::of(alloc, queue, settings),
+    ))
+}
+
+/// The thread's room, of its formatted bank. Want of memory is the one refusal.
+fn own_room(alloc: Global, bank: Bank) -> Result<ThreadRoom, AllocError>
+    requires { bank ≡ line_bank (line_of_words 0 0) }
+    ensures { IfOk result (λ room. (settings : SettingsValue) (script : List CommandValue) → IsOwnRoom unwritten (start_of settings (script ∷ [])) [] [] room) }
+{
+    let cells = CellBank::clean(alloc, bank, 0)?;
+    let room = ThreadRoom::of(alloc, cells, ThreadEnd::Ready)?;
+    Ok(room)
 }
 
 /// Where a thread stands that has saved so many of its commands.

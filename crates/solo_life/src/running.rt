@@ -7,7 +7,8 @@ ghost use Rattle.solo_life.specs.Life.{IsSolo, Follows, IsGivenUp, MayBegin, IsD
 
 use crate::life::SoloLife;
 use crate::phase::{CellRoom, Closing, Phase, WorkRoom};
-use command_room::UnderWay;
+use command_room::{RunsCommands as _, UnderWay};
+use planned_cells::CellRoom as _;
 use restart_point::ThreadEnd;
 use seq_object::{Command, Entry, Reply};
 use std::alloc::AllocError;

@@ -1,5 +1,5 @@
 -- Choices of a power cut: how many of its pending stores each line keeps.
-use Rattle.std.specs.Prelude.{ℕ, zero, suc, ◌+◌, ◌%◌, ◌≤◌, ◌==◌, List, [], ◌∷◌, length, min, if◌then◌else◌}
+use Rattle.std.specs.Prelude.{◌≡◌, ℕ, zero, suc, ◌+◌, ◌%◌, ◌≤◌, ◌==◌, List, [], ◌∷◌, length, min, if◌then◌else◌}
 use Rattle.rand_xoshiro.specs.SplitMix64.{next_state, mix_u64}
 use Rattle.line_memory.specs.Line.{LineState, line_at}
 use Rattle.store_order.specs.declared.choice.Kept.{Kept}
@@ -14,6 +14,13 @@ state_after (suc n) seed = next_state (state_after n seed)
 -- word number n, from 0, that SplitMix64 draws from this seed
 abbrev pub word_drawn : ℕ → ℕ → ℕ
 word_drawn seed n = (mix_u64 (state_after n seed)).0
+
+-- the generator has drawn for so many lines, where the choice draws
+abbrev pub IsDrawnTo : Choice → ℕ → ℕ → Type 0
+IsDrawnTo Nothing line words = Unit {0}
+IsDrawnTo All line words = Unit {0}
+IsDrawnTo (Seed seed) line words = words ≡ state_after line seed
+IsDrawnTo (Listed entries) line words = Unit {0}
 
 -- the count of the first entry with this line, or 0 where there is none
 abbrev pub count_listed : List Kept → ℕ → ℕ

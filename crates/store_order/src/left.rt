@@ -1,7 +1,7 @@
 //! Survivors of one line, and whether lines may be left of a bank. Nothing here takes memory.
 
 ghost use Rattle.std.specs.Prelude.{◌≡◌, ◌<◌, ◌≤◌, ◌↔◌, IsTrue, length, slice_set};
-ghost use Rattle.line_memory.specs.Line.{left, line_at};
+ghost use Rattle.line_memory.specs.Line.{survivor, line_at};
 ghost use Rattle.store_order.specs.Survivors.{IsSurvivor, MayBeLeft};
 
 use line_memory::{Bank, WORDS};
@@ -10,7 +10,7 @@ use line_memory::{Bank, WORDS};
 pub fn line_left(bank: &Bank, line: u32, k: u32) -> [u64; 8]
     requires line { line < length bank.now.lines }
     requires few { k ≤ length (line_at bank.now.lines line).pending }
-    ensures { result ≡ left (line_at bank.now.lines line) k }
+    ensures { result ≡ survivor (line_at bank.now.lines line) k }
 {
     let mut words = bank.base(line);
     for i in 0..k {

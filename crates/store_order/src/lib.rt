@@ -6,8 +6,9 @@
 //!
 //! A contract sees a choice as a function from the number of a line, counted through all rooms, and the number of its
 //! pending stores to the number of those that it keeps. Proved here: that `survive` leaves exactly the lines of this
-//! function, that it never keeps more than is pending, and that `may_be_left` answers true exactly at the survivors. That
-//! the first words drawn by a seed are those that SplitMix64 has elsewhere, and that memory suffices, is only tested.
+//! function, and so does `survive_next` from bank to bank, which draws each word of a seed once; that a choice never keeps
+//! more than is pending; and that `may_be_left` answers true exactly at the survivors. That the first words drawn by a seed
+//! are those that SplitMix64 has elsewhere, and that memory suffices, is only tested.
 #![tactic(auto)]
 
 mod choice;
@@ -19,7 +20,7 @@ mod survivors;
 pub use choice::{Choice, Kept};
 pub use laws::choice_laws;
 pub use left::may_be_left;
-pub use survivors::survive;
+pub use survivors::{generator_of, survive, survive_next};
 
 #[cfg(test)]
 mod tests;

@@ -8,15 +8,15 @@ use Rattle.yard_model.specs.declared.view.Beginning.{Beginning}
 use Rattle.yard_model.specs.declared.view.View.{View}
 use Rattle.yard_model.specs.declared.view.Grip.{Grip}
 use Rattle.yard_model.specs.declared.view.GivenBack.{GivenBack}
-use Rattle.yard_model.specs.declared.view.Released.{Released}
+use Rattle.yard_model.specs.declared.view.Checkpoint.{Checkpoint}
 use Rattle.yard_model.specs.Beginnings.{sizes_at, is_over}
 use Rattle.yard_model.specs.Knows.{stands, is_closing, MayHold}
-use Rattle.yard_model.specs.World.{World, tick_word, clock, arrival, lock_of, ViewIs, closes}
+use Rattle.yard_model.specs.World.{YardState, tick_word, clock, arrival, lock_of, ViewIs, closes}
 use Rattle.yard_model.specs.Lawful.{Lawful}
 use Rattle.yard_laws.proofs.Lists.{at_inside}
 use Rattle.yard_laws.proofs.Views.{any_there}
 
-module _ (b : Beginning) (w : World) (h : List Entry) (ms : List Released) (l : Lawful b w h ms) where
+module _ (b : Beginning) (w : YardState) (h : List Entry) (cs : List Checkpoint) (l : Lawful b w h cs) where
   -- the arrival word alone is written
   module _ (word : ℕ) where
     pub word_here : get_or (set w.words 2 word) 2 0 ≡ word
@@ -30,6 +30,14 @@ module _ (b : Beginning) (w : World) (h : List Entry) (ms : List Released) (l : 
 
     pub clock_here : get_or (set w.words 2 word) 1 0 ≡ clock w
     clock_here = get_or-set_other w.words 2 1 word 0 (λ e. omega arith)
+
+  -- there is a shard
+  pub some_shards : 0 < (sizes_at b).shards
+  some_shards = let s = l.bounds.beginning.settings.sizes.some_shards in omega (arith, s)
+
+  -- each view is a thread's
+  pub below_threads : (i : ℕ) (v : View) → ViewIs w i v → i < b.settings.threads
+  below_threads i v at = let f = at_inside w.views i v at in let n = l.sized.views in omega (arith, f, n)
 
   -- a thread's number is below 16
   pub few_threads : (i : ℕ) (v : View) → ViewIs w i v → i < 16
@@ -66,7 +74,7 @@ module _ (b : Beginning) (w : World) (h : List Entry) (ms : List Released) (l : 
   pub none_closes : is_set (arrival w) 16 ≡ false → closes w.views ≡ false
   none_closes f = sym l.arrival.word.closing ∙ f
 
-  pub not_over : is_set (arrival w) 17 ≡ false → is_over b ms ≡ true → ⊥
+  pub not_over : is_set (arrival w) 17 ≡ false → is_over b cs ≡ true → ⊥
   not_over f o = let s = l.arrival.word.over in let c : true ≡ false = sym o ∙ (sym s ∙ f) in absurd (cc)
 
   -- a phase that does not close

@@ -10,33 +10,39 @@ use Rattle.std.proofs.lemmas.List.Elements.{All-nil}
 use Rattle.std.proofs.lemmas.Bool.{cases_lt, le-ltb, lt-ltb, lt-leb}
 use Rattle.seq_object.specs.declared.command.Command.{Command}
 use Rattle.seq_object.specs.declared.history.Entry.{Entry}
+use Rattle.seq_object.specs.History.{point_at}
 use Rattle.life_model.specs.declared.life.Life.{Life}
 use Rattle.life_model.specs.declared.life.Life.TheVariants.{Start, Resume}
-use Rattle.life_model.specs.Life.{opening_place, place_after, next_command, saved, entries_between, AreRising, AreStretches, IsBegun, IsInOrder}
-use Rattle.room_model.specs.Rooms.{thread_room, super_room}
+use Rattle.life_model.specs.Life.{Opening, point_after, next_command, covered, entries_between, AreRising, AreStretches, BeginsRightly, IsInOrder, contents_now}
 use Rattle.restart_point.specs.declared.thread_end.ThreadEnd.{ThreadEnd}
 use Rattle.block_allow.specs.Verdicts.{leaves}
-use Rattle.yard_model.specs.declared.room.Room.{Room}
+use Rattle.rooms.specs.declared.room.Room.{Room}
 use Rattle.yard_model.specs.declared.view.Phase.TheVariants.{Standing, Closing}
 use Rattle.yard_model.specs.declared.view.Beginning.{Beginning}
 use Rattle.yard_model.specs.declared.view.View.{View}
-use Rattle.yard_model.specs.declared.view.Released.{Released}
-use Rattle.yard_model.specs.Rooms.{cells_of, bank_of, state_of, lines_unasked, IsSavedIn}
-use Rattle.yard_model.specs.Beginnings.{opening_of, sizes_at, opening_marks, marks_of, first_epoch, epoch_now, are_used_below, is_over, contents_behind, is_fed}
+use Rattle.rooms.specs.Rooms.{cells_of, bank_of, state_of, lines_unasked}
+use Rattle.yard_model.specs.Beginnings.{opening_of, sizes_at, recovery_marks, marks_of, first_epoch, epoch_now, are_used_below, is_over, is_fed}
 use Rattle.yard_model.specs.Knows.{stands, is_closing}
-use Rattle.yard_model.specs.World.{World, tick_word, arrival, lock_of, dead, ViewIs, Home, stands_at, closes, done_in, done_by, all_ticks, number_on, seen_on, is_called_off, Shows}
-use Rattle.yard_model.specs.Facts.{HoldsRightly, KnowsEntries, LeftRoom, IsInEpoch, IsSafeRoom, KeepsPosition, IsBounded, HasLearnt, KnowsRoom}
+use Rattle.yard_model.specs.World.{YardState, tick_word, arrival, lock_of, dead, ViewIs, Home, stands_at, closes, done_in, done_by, all_ticks, all_checkpoints, number_on, seen_on, is_called_off, Shows}
 use Rattle.yard_model.specs.Lawful.{ShowsArrival, Lawful}
-use Rattle.yard_model.specs.Opens.{opening_view, IsOpeningWorld, OpensLawful}
+use Rattle.yard_model.specs.Opens.{opening_view, IsOpeningWorld, OpensLawfulLaw}
 use Rattle.yard_laws.proofs.Lists.{at_inside, there}
 use Rattle.yard_laws.proofs.Views.{stands_there, stands_past, none_any, none_total}
-use Rattle.yard_laws.proofs.Readings.{same_bank, nothing_pending, earlier, not_running, free_state, saved_as_loaded, stands_held}
+use Rattle.yard_laws.proofs.Readings.{same_bank, nothing_pending, earlier, not_running, free_state, point_as_loaded, stands_held}
 use Rattle.yard_model.specs.declared.view.Grip.{Grip}
 use Rattle.yard_model.specs.declared.view.GivenBack.{GivenBack}
+use Rattle.incll_var.specs.Cells.{IsSavedIn}
+use Rattle.yard_model.specs.Locks.{HoldsRightly, HasOwnEntries, GripsRightly}
+use Rattle.yard_model.specs.Dead.{LeftRoom}
+use Rattle.yard_model.specs.Epochs.{IsInEpoch, IsBounded}
+use Rattle.yard_model.specs.Homes.{IsFreeHome}
+use Rattle.yard_model.specs.Positions.{KeepsPosition, IsStored}
+use Rattle.yard_model.specs.Closings.{HasLearnt}
+use Rattle.seq_object.specs.Sizes.{thread_room, super_room}
 
 -- USED SCRIPTS
 
-used_each : (b : Beginning) (n : ℕ) → are_used_below b n ≡ true → (i : ℕ) → i < n → next_command (opening_of b) [] i ≡ None
+pub used_each : (b : Beginning) (n : ℕ) → are_used_below b n ≡ true → (i : ℕ) → i < n → next_command (opening_of b) [] i ≡ None
 used_each b zero used i lt = absurd (omega (arith, lt))
 used_each b (suc n) used i lt = dite (ℕ_discrete i n)
     (λ e. subst (λ (i : ℕ). next_command (opening_of b) [] i ≡ None) (sym e) (is_nothing (next_command (opening_of b) [] n) (first_true (is_none (next_command (opening_of b) [] n)) (are_used_below b n) used)))
@@ -74,21 +80,25 @@ none_unasked lines none = count_stays 0 lines none
 
 -- THE ORDER
 
-rising : (life : Life) → AreRising 0 (opening_marks life ++ []) 0
+rising : (life : Life) → AreRising 0 (recovery_marks life ++ []) 0
 rising Start = omega arith
 rising Resume = (omega arith, omega arith)
 
-begun : (life : Life) (b : Beginning) → IsBegun life (opening_of b) [] (opening_marks life) → IsBegun life (opening_of b) [] (opening_marks life ++ [])
-begun Start b f = f
-begun Resume b f = refl
+-- an opening as a life of another kind
+abbrev pub as_life : Life → Opening → Opening
+as_life life o = record o { life = life }
 
-stretches : (life : Life) (b : Beginning) → AreStretches (opening_of b) [] 0 (opening_marks life ++ [])
+begun : (life : Life) (o : Opening) → BeginsRightly (as_life life o) [] (recovery_marks life) → BeginsRightly (as_life life o) [] (recovery_marks life ++ [])
+begun Start o f = f
+begun Resume o f = refl
+
+stretches : (life : Life) (b : Beginning) → AreStretches (opening_of b) [] 0 (recovery_marks life ++ [])
 stretches Start b = tt
 stretches Resume b = ((λ thread. inl refl), tt)
 
 -- THE OPENING
 
-module _ (b : Beginning) (w : World) (s : IsOpeningWorld b w) where
+module _ (b : Beginning) (w : YardState) (s : IsOpeningWorld b w) where
   abbrev e : ℕ
   e = epoch_now b []
 
@@ -114,6 +124,9 @@ module _ (b : Beginning) (w : World) (s : IsOpeningWorld b w) where
   none_done : done_in w.views ≡ 0
   none_done = none_total done_by w.views (each_view (λ (i : ℕ) (v : View). done_by v ≡ 0) (λ i _. refl))
 
+  no_checkpoints : all_checkpoints w.views ≡ 0
+  no_checkpoints = none_total (λ (v : View). v.checkpoints) w.views (each_view (λ (i : ℕ) (v : View). v.checkpoints ≡ 0) (λ i _. refl))
+
   no_ticks : all_ticks w.views ≡ 0
   no_ticks = none_total (λ (v : View). v.ticks) w.views (each_view (λ (i : ℕ) (v : View). v.ticks ≡ 0) (λ i _. refl))
 
@@ -123,8 +136,8 @@ module _ (b : Beginning) (w : World) (s : IsOpeningWorld b w) where
   not_dead : (r : ℕ) → lock_of w r ≡ dead → ⊥
   not_dead r d = let f = s.locks r in omega (arith, f, d)
 
-  no_place : (i : ℕ) → place_after (opening_of b) [] i ≡ opening_place (opening_of b) i
-  no_place i = omega arith
+  first_point : (i : ℕ) → point_after (opening_of b) [] i ≡ point_at b.points i
+  first_point i = let same : (point_at b.points i).position + 0 ≡ (point_at b.points i).position = omega arith in λ k. record { position = same k }
 
   opens_arrival : ShowsArrival b w [] []
   opens_arrival = record {
@@ -145,14 +158,15 @@ module _ (b : Beginning) (w : World) (s : IsOpeningWorld b w) where
   order : IsInOrder (opening_of b) [] (marks_of b [])
   order = record {
     threads = s.beginning.scripts;
+    points = s.beginning.points;
     commands = λ thread. tt;
     rising = rising b.life;
-    begun = begun b.life b s.beginning.begun;
+    begun = begun b.life (opening_of b) s.beginning.begun;
     stretches = stretches b.life b;
     rest = λ thread. rest_of b.life thread;
   }
     where
-      rest_of : (life : Life) (thread : ℕ) → entries_between [] (saved (opening_marks life ++ [])) 0 thread ≤ b.settings.every
+      rest_of : (life : Life) (thread : ℕ) → entries_between [] (covered (recovery_marks life ++ [])) 0 thread ≤ b.settings.every
       rest_of Start thread = omega arith
       rest_of Resume thread = omega arith
 
@@ -170,18 +184,24 @@ module _ (b : Beginning) (w : World) (s : IsOpeningWorld b w) where
       none_unasked (bank_of x).lines (λ i lt. let z : 0 ≡ i = omega (arith, lt, one) in subst (λ (i : ℕ). (line_at (bank_of x).lines i).pending ≡ []) z ((s.rooms r x at_home).nothing_pending is)))
       (cases_lt r (super_room (sizes_at b)))
 
-  safe : (r : ℕ) (x : Room) → Home w r x → IsSafeRoom b [] [] (closes w.views) (done_in w.views) (lock_of w r) r x
-  safe r x at_home = let f = s.rooms r x at_home in record {
-    idle = λ _. f.idle;
-    free = λ _ few. free_state e (nat_lt r (done_in w.views)) (state_of x) (saved_now r x at_home few);
-    dead_room = λ d _. absurd (not_dead r d);
-    done_saved = λ _ lt. let n = none_done in absurd (omega (arith, lt, n));
-    cells = f.cells;
-    held = λ low. let few : r < super_room (sizes_at b) = omega (arith, low) in stands_held (sizes_at b) r e x (contents_behind b []) (f.cells few) (saved_now r x at_home few) (f.stands low);
-    position = λ i is lt. let few : r < super_room (sizes_at b) = omega (arith, is, lt) in
-        saved_as_loaded e x (f.cells few) (saved_now r x at_home few) 0 0 (omega arith) ∙ ((s.positions i x lt (subst (λ (r : ℕ). Home w r x) is at_home)).position ∙ sym (no_place i));
-    written = λ _. let z = all_written r x at_home in let m = f.write_backs in omega (arith, z, m);
-    written_dead = λ d. absurd (not_dead r d);
+  not_done : (r : ℕ) → nat_lt r (done_in w.views) ≡ false
+  not_done r = let n = none_done in le-ltb r (done_in w.views) (omega (arith, n))
+
+  opens_free : (r : ℕ) (x : Room) → Home w r x → IsFreeHome b [] [] (done_in w.views) r x
+  opens_free r x at_home = let f = s.rooms r x at_home in record {
+    safe = record {
+      cells = f.cells;
+      saved = λ d _. let n = not_done r in let c : true ≡ false = sym d ∙ n in absurd (cc);
+      in_memory = λ low. let few : r < super_room (sizes_at b) = omega (arith, low) in stands_held (sizes_at b) r e x (contents_now (opening_of b) []) (f.cells few) (saved_now r x at_home few) (f.stands low);
+      no_fewer = let m = f.write_backs in omega (arith, m);
+      eight = f.eight;
+    };
+    idle = f.idle;
+    state = λ few. free_state e (nat_lt r (done_in w.views)) (state_of x) (saved_now r x at_home few);
+    stands = f.stands;
+    write_backs = let z = all_written r x at_home in let m = f.write_backs in omega (arith, z, m);
+    nothing_pending = f.nothing_pending;
+    epoch_word = λ is. f.epoch is ∙ (now ∙ (omega arith ∙ ap (λ (c : Bool). e + cond c 1 0) (sym (not_done r))));
   }
 
   thread_few : (i : ℕ) → i < b.settings.threads → thread_room (sizes_at b) i < super_room (sizes_at b)
@@ -210,12 +230,11 @@ module _ (b : Beginning) (w : World) (s : IsOpeningWorld b w) where
     entries = record {
       clock = s.clock;
       known = All-nil (λ (d : Entry). d.thread < b.settings.threads);
-      views = each_view (λ (i : ℕ) (v : View). KnowsEntries b [] i v.own v.grip) (λ i _. record { own = refl; held = λ g f. absurd (cc) });
+      views = each_view (λ (i : ℕ) (v : View). HasOwnEntries b [] i v.own v.grip) (λ i _. record { own = refl; held = λ g f. absurd (cc) });
       home = λ r x at_home. (s.rooms r x at_home).history;
     };
     loads = record {
       legal = λ r. tt;
-      free = λ r x at_home low _. (s.rooms r x at_home).stands low;
       dead_room = each_view (λ (i : ℕ) (v : View). LeftRoom b [] [] (Home w) i v.phase v.given_back) (λ i _ k f. absurd (cc));
     };
     epochs = record {
@@ -228,37 +247,37 @@ module _ (b : Beginning) (w : World) (s : IsOpeningWorld b w) where
         cause = λ _ f. absurd (not_ran f);
         emptied = λ f. absurd (not_ran f);
       });
+      last = each_view (λ (i : ℕ) (v : View). v.last_checkpoint ≤ e) (λ i _. omega arith);
       order = order;
+      takeless = λ _. omega arith;
     };
-    rooms = record { rooms = safe };
+    rooms = record {
+      free = λ r x at_home _. opens_free r x at_home;
+      dead_room = λ r x _ d. absurd (not_dead r d);
+      points = λ i x lt at_home. let few = thread_few i lt in point_as_loaded e x ((s.rooms (thread_room (sizes_at b) i) x at_home).cells few) (saved_now (thread_room (sizes_at b) i) x at_home few)
+          ∙ ((s.positions i x lt at_home).point ∙ sym (first_point i));
+    };
     positions = record {
       views = each_view (λ (i : ℕ) (v : View). (x : Room) → Home w (thread_room (sizes_at b) i) x → KeepsPosition b [] [] (lock_of w (thread_room (sizes_at b) i)) i v.phase v.ran v.wrote x) (λ i lt x at_home.
           let f = s.positions i x lt at_home in record {
-            standing = λ _. record { position = f.position ∙ sym (no_place i); ended = f.ended; waits = λ d. absurd (f.no_wait d) };
+            standing = λ _. record { point = f.point ∙ sym (first_point i); ended = f.ended; waits = λ d. absurd (f.no_wait d) };
             written = λ _ p. absurd (cc);
             unwritten = λ _ p. absurd (cc);
             runs = λ _ r. absurd (not_running (λ c. c < e) (state_of x) (saved_now (thread_room (sizes_at b) i) x at_home (thread_few i lt)) r);
           });
     };
-    epoch_word = record {
-      room = λ x at_home. let f = s.rooms (super_room (sizes_at b)) x at_home in record {
-        eight = f.eight refl;
-        nothing_pending = λ _. f.nothing_pending refl;
-        free = λ _. let n = none_done in f.epoch refl ∙ (now ∙ (omega arith ∙ ap (λ (c : Bool). e + cond c 1 0) (sym (le-ltb (super_room (sizes_at b)) (done_in w.views) (omega (arith, n))))));
-        dead_room = λ d. absurd (not_dead (super_room (sizes_at b)) d);
-      };
-    };
+    stored = record { views = each_view (λ (i : ℕ) (v : View). (x : Room) → Home w (thread_room (sizes_at b) i) x → IsStored (epoch_now b []) (lock_of w (thread_room (sizes_at b) i)) (nat_lt (thread_room (sizes_at b) i) (done_in w.views)) v.ran v.wrote x) (λ i lt x at_home z d ran wrote. absurd (cc)) };
     bounds = record {
       beginning = s.beginning;
       learnt = each_view (λ (i : ℕ) (v : View). v.phase ≡ Closing → HasLearnt b [] (Home w) v.closed) (λ i _ f. absurd (cc));
-      views = each_view (λ (i : ℕ) (v : View). IsBounded [] i v.phase v.ticks v.marks) (λ i _. record { few_ticks = omega arith; own_marks = refl; few_marks = omega arith; may_release = λ f. absurd (cc) });
+      views = each_view (λ (i : ℕ) (v : View). IsBounded v.phase v.ticks v.checkpoints) (λ i _. record { few_ticks = omega arith; few_checkpoints = omega arith; may_release = λ f. absurd (cc) });
       ticks = λ _. s.tick ∙ sym no_ticks;
       off = λ f. let n = none_called in let c : false ≡ true = sym n ∙ f in absurd (cc);
       limit = omega (arith, no_ticks, none_on);
-      known_marks = All-nil (λ (m : Released). m.thread < b.settings.threads);
+      checkpoints = no_checkpoints;
     };
-    taken = record { views = each_view (λ (i : ℕ) (v : View). (g : Grip) → v.grip ≡ Some g → KnowsRoom b [] [] v.phase g) (λ i _ g f. absurd (cc)) };
+    taken = record { views = each_view (λ (i : ℕ) (v : View). (g : Grip) → v.grip ≡ Some g → GripsRightly b [] [] v.phase g) (λ i _ g f. absurd (cc)) };
   }
 
-pub opens_lawful : OpensLawful
+pub opens_lawful : OpensLawfulLaw
 opens_lawful b w s = opens b w s

@@ -7,7 +7,7 @@ use Rattle.std.proofs.lemmas.Nat.{and_mask, and_shr, or_shr, pow_below}
 use Rattle.std.proofs.Math.Nat.{div-eq_of_lt}
 use Rattle.std.proofs.lemmas.Nat.Bits.{bit_at_or, bit_at_and, bit_at-pow_same, bit_at-pow_other, bit_at_not, bit_at-lt, bit_at_ones, and_pow}
 use Rattle.restart_point.specs.ArrivalWord.{is_set, bit_at as mark_at, word_of, HasNoOtherBits}
-use Rattle.yard_model.specs.Laws.{ArrivalShows}
+use Rattle.yard_model.specs.Laws.{ArrivalShowsLaw}
 use Rattle.yard_model.specs.Steps.{with_bit, without_bit}
 
 -- the bit that is set is set, and no other bit changes
@@ -149,7 +149,7 @@ is_made mask false false false e lt = record {
 }
 
 -- an arrival word that is made shows what it was made of
-pub arrival_shows : ArrivalShows
+pub arrival_shows : ArrivalShowsLaw
 arrival_shows a fits = let f = is_made a.mask a.closing a.over a.fed a.epoch fits.mask in record {
   standing = λ i lt. bit_is (bit_at (word_of a) i) (bit_at a.mask i) (sym (low_bit (word_of a) i lt) ∙ ap (λ (n : ℕ). bit_at n i) f.low);
   closing = f.closing;

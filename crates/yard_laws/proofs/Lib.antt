@@ -14,6 +14,7 @@ pub mod Note
 pub mod Lock
 pub mod Free
 pub mod Readings
+pub mod Homes
 pub mod Returns
 pub mod Unlock
 pub mod Retreat
@@ -22,9 +23,12 @@ pub mod Stretches
 pub mod Release
 pub mod Draw
 pub mod Beginning
+pub mod OpeningViews
 pub mod Given
 pub mod Clock
 pub mod Merged
 pub mod Legal
 pub mod Safe
 pub mod Present
+pub mod WriteBacks
+pub mod Outcomes

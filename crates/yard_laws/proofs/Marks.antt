@@ -1,10 +1,13 @@
 -- Lists of released checkpoints, and ends of threads.
-use Rattle.std.proofs.Common.{◌≡◌, ◌≢◌, ℕ, zero, suc, ◌+◌, ◌<◌, ◌≤◌, ◌==◌, cond, Bool, true, false, List, [], ◌∷◌, ◌++◌, length, sym, refl, ap, ◌∙◌, arith, Some, eq-eqb}
+use Rattle.std.proofs.Common.{◌≡◌, ℕ, zero, suc, ◌<◌, ◌≤◌, ◌||◌, not, cond, Bool, true, false, List, [], ◌∷◌, ◌++◌, length, sym, refl, ap, ◌∙◌, subst, arith, Some}
 use Rattle.std.proofs.lemmas.Bool.{ne_eqb}
 use Rattle.std.specs.Prelude.{slice_get}
-use Rattle.std.specs.List.{All}
+use Rattle.std.specs.List.{All, list_any}
 use Rattle.std.proofs.lemmas.List.Elements.{All-head, All-tail}
 use Rattle.seq_object.specs.declared.history.Entry.{Entry}
+use Rattle.seq_object.specs.declared.command.Command.{Command}
+use Rattle.seq_object.specs.declared.command.Command.TheVariants.{Take}
+use Rattle.seq_object.specs.Object.{IsTakeless}
 use Rattle.seq_object.specs.History.{of_thread}
 use Rattle.life_model.specs.declared.life.Life.{Life}
 use Rattle.life_model.specs.declared.life.Life.TheVariants.{Start, Resume}
@@ -12,66 +15,54 @@ use Rattle.life_model.specs.Life.{last_mark}
 use Rattle.restart_point.specs.declared.thread_end.ThreadEnd.{ThreadEnd}
 use Rattle.block_allow.specs.Verdicts.{leaves}
 use Rattle.yard_model.specs.declared.view.Beginning.{Beginning}
-use Rattle.yard_model.specs.declared.view.Released.{Released}
-use Rattle.yard_model.specs.Beginnings.{opening_marks, lengths_of, marks_of, last_length, over_from, OnlyLastIsOver, marks_by}
-use Rattle.yard_model.specs.Conditions.{none_leaves}
+use Rattle.yard_model.specs.declared.view.Checkpoint.{Checkpoint}
+use Rattle.yard_model.specs.Beginnings.{recovery_marks, lengths_of, marks_of, covered_by, over_from, OnlyLastIsOver}
 
 -- a checkpoint at the end is the last one
-last_from : (low : ℕ) (ms : List Released) (m : Released) → last_mark low (lengths_of (ms ++ m ∷ [])) ≡ m.length
+last_from : (low : ℕ) (cs : List Checkpoint) (m : Checkpoint) → last_mark low (lengths_of (cs ++ m ∷ [])) ≡ m.length
 last_from low [] m = refl
-last_from low (x ∷ ms) m = last_from x.length ms m
+last_from low (x ∷ cs) m = last_from x.length cs m
 
-pub last_append : (ms : List Released) (m : Released) → last_length (ms ++ m ∷ []) ≡ m.length
-last_append ms m = last_from 0 ms m
+pub last_append : (cs : List Checkpoint) (m : Checkpoint) → covered_by (cs ++ m ∷ []) ≡ m.length
+last_append cs m = last_from 0 cs m
 
-lengths_append : (ms : List Released) (m : Released) → lengths_of (ms ++ m ∷ []) ≡ lengths_of ms ++ m.length ∷ []
+lengths_append : (cs : List Checkpoint) (m : Checkpoint) → lengths_of (cs ++ m ∷ []) ≡ lengths_of cs ++ m.length ∷ []
 lengths_append [] m = refl
-lengths_append (x ∷ ms) m = ap (λ (ns : List ℕ). x.length ∷ ns) (lengths_append ms m)
+lengths_append (x ∷ cs) m = ap (λ (ns : List ℕ). x.length ∷ ns) (lengths_append cs m)
 
-pub marks_append : (b : Beginning) (ms : List Released) (m : Released) → marks_of b (ms ++ m ∷ []) ≡ marks_of b ms ++ m.length ∷ []
-marks_append b ms m = by b.life
+pub marks_append : (b : Beginning) (cs : List Checkpoint) (m : Checkpoint) → marks_of b (cs ++ m ∷ []) ≡ marks_of b cs ++ m.length ∷ []
+marks_append b cs m = by b.life
   where
-    by : (life : Life) → opening_marks life ++ lengths_of (ms ++ m ∷ []) ≡ (opening_marks life ++ lengths_of ms) ++ m.length ∷ []
-    by Start = lengths_append ms m
-    by Resume = ap (λ (ns : List ℕ). 0 ∷ ns) (lengths_append ms m)
+    by : (life : Life) → recovery_marks life ++ lengths_of (cs ++ m ∷ []) ≡ (recovery_marks life ++ lengths_of cs) ++ m.length ∷ []
+    by Start = lengths_append cs m
+    by Resume = ap (λ (ns : List ℕ). 0 ∷ ns) (lengths_append cs m)
 
-pub over_append : (over : Bool) (ms : List Released) (m : Released) → over_from over (ms ++ m ∷ []) ≡ m.over
+pub over_append : (over : Bool) (cs : List Checkpoint) (m : Checkpoint) → over_from over (cs ++ m ∷ []) ≡ m.over
 over_append over [] m = refl
-over_append over (x ∷ ms) m = over_append x.over ms m
+over_append over (x ∷ cs) m = over_append x.over cs m
 
-pub only_append : (over : Bool) (ms : List Released) (m : Released) → OnlyLastIsOver ms → over_from over ms ≡ false → OnlyLastIsOver (ms ++ m ∷ [])
+pub only_append : (over : Bool) (cs : List Checkpoint) (m : Checkpoint) → OnlyLastIsOver cs → over_from over cs ≡ false → OnlyLastIsOver (cs ++ m ∷ [])
 only_append over [] m only last = tt
 only_append over (x ∷ []) m only last = (last, tt)
-only_append over (x ∷ y ∷ ms) m only last = (only.0, only_append x.over (y ∷ ms) m only.1 last)
-
--- it is its thread's, and no other's
-by_append : (i : ℕ) (ms : List Released) (m : Released) → marks_by i (ms ++ m ∷ []) ≡ marks_by i ms + cond (m.thread == i) 1 0
-by_append i [] m = omega arith
-by_append i (x ∷ ms) m = let f = by_append i ms m in omega (arith, f)
-
-pub marks_mine : (i : ℕ) (ms : List Released) (m : Released) → m.thread ≡ i → marks_by i (ms ++ m ∷ []) ≡ marks_by i ms + 1
-marks_mine i ms m is = by_append i ms m ∙ ap (λ (c : Bool). marks_by i ms + cond c 1 0) (eq-eqb m.thread i is)
-
-pub marks_other : (i : ℕ) (ms : List Released) (m : Released) → m.thread ≢ i → marks_by i (ms ++ m ∷ []) ≡ marks_by i ms
-marks_other i ms m ne = by_append i ms m ∙ (ap (λ (c : Bool). marks_by i ms + cond c 1 0) (ne_eqb m.thread i ne) ∙ omega arith)
+only_append over (x ∷ y ∷ cs) m only last = (only.0, only_append x.over (y ∷ cs) m only.1 last)
 
 -- where none may leave, this one may not
-pub none_of : (es : List ThreadEnd) (fed : Bool) (k : ℕ) (x : ThreadEnd) → none_leaves es fed ≡ true → slice_get es k ≡ Some x → leaves x fed ≡ false
+pub none_of : (es : List ThreadEnd) (fed : Bool) (k : ℕ) (x : ThreadEnd) → not (list_any (λ (end : ThreadEnd). leaves end fed) es) ≡ true → slice_get es k ≡ Some x → leaves x fed ≡ false
 none_of [] fed k x none f = absurd (cc)
 none_of (y ∷ es) fed zero x none f = first (leaves y fed) refl none
   where
-    first : (c : Bool) → leaves y fed ≡ c → cond c false (none_leaves es fed) ≡ true → leaves x fed ≡ false
+    first : (c : Bool) → leaves y fed ≡ c → not (c || list_any (λ (end : ThreadEnd). leaves end fed) es) ≡ true → leaves x fed ≡ false
     first true e n = absurd (cc)
     first false e n = let s : y ≡ x = cc in ap (λ (z : ThreadEnd). leaves z fed) (sym s) ∙ e
 none_of (y ∷ es) fed (suc k) x none f = rest (leaves y fed) (λ n. none_of es fed k x n f) none
   where
-    rest : (c : Bool) → (none_leaves es fed ≡ true → leaves x fed ≡ false) → cond c false (none_leaves es fed) ≡ true → leaves x fed ≡ false
+    rest : (c : Bool) → (not (list_any (λ (end : ThreadEnd). leaves end fed) es) ≡ true → leaves x fed ≡ false) → not (c || list_any (λ (end : ThreadEnd). leaves end fed) es) ≡ true → leaves x fed ≡ false
     rest true later n = absurd (cc)
     rest false later n = later n
 
-pub all_of : (es : List ThreadEnd) (fed : Bool) → ((k : ℕ) (x : ThreadEnd) → k < length es → slice_get es k ≡ Some x → leaves x fed ≡ false) → none_leaves es fed ≡ true
+pub all_of : (es : List ThreadEnd) (fed : Bool) → ((k : ℕ) (x : ThreadEnd) → k < length es → slice_get es k ≡ Some x → leaves x fed ≡ false) → not (list_any (λ (end : ThreadEnd). leaves end fed) es) ≡ true
 all_of [] fed each = refl
-all_of (y ∷ es) fed each = ap (λ (c : Bool). cond c false (none_leaves es fed)) (each 0 y (omega arith) refl) ∙ all_of es fed (λ k x lt f. each (suc k) x (omega (arith, lt)) f)
+all_of (y ∷ es) fed each = ap (λ (c : Bool). not (c || list_any (λ (end : ThreadEnd). leaves end fed) es)) (each 0 y (omega arith) refl) ∙ all_of es fed (λ k x lt f. each (suc k) x (omega (arith, lt)) f)
 
 -- a thread past the last has no entry
 pub past_none : (n k : ℕ) (h : List Entry) → All (λ (e : Entry). e.thread < n) h → n ≤ k → length (of_thread k h) ≡ 0
@@ -79,3 +70,9 @@ past_none n k [] known le = refl
 past_none n k (e ∷ h) known le = let lt = All-head (λ (e : Entry). e.thread < n) e h known in
     ap (λ (c : Bool). length (cond c (e ∷ of_thread k h) (of_thread k h))) (ne_eqb e.thread k (λ q. omega (arith, lt, le, q)))
     ∙ past_none n k h (All-tail (λ (e : Entry). e.thread < n) e h known) le
+
+-- a script without a take has none at any place
+pub no_take_at : (script : List Command) (k : ℕ) → All IsTakeless script → slice_get script k ≡ Some Take → ⊥
+no_take_at [] k all e = absurd (cc)
+no_take_at (c ∷ cs) zero all e = let same : c ≡ Take = cc in subst IsTakeless same (All-head IsTakeless c cs all)
+no_take_at (c ∷ cs) (suc k) all e = no_take_at cs k (All-tail IsTakeless c cs all) e

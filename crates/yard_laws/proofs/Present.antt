@@ -6,38 +6,41 @@ use Rattle.std.proofs.lemmas.Bool.{ne_eqb}
 use Rattle.std.specs.List.{Contains}
 use Rattle.seq_object.specs.declared.command.Command.{Command}
 use Rattle.seq_object.specs.declared.history.Entry.{Entry}
+use Rattle.seq_object.specs.declared.history.RestartPoint.{RestartPoint}
 use Rattle.seq_object.specs.Object.{room_of}
 use Rattle.line_memory.specs.Line.{BankState, bank_load, load_of}
 use Rattle.room_model.specs.declared.write.PlannedStore.{PlannedStore}
 use Rattle.room_model.specs.Chains.{RoomWords}
-use Rattle.room_model.specs.MapRoom.{map_layout}
-use Rattle.room_model.specs.Rooms.{thread_room, room_count, StandsFor}
+use Rattle.room_model.specs.MapRoom.{live_layout}
+use Rattle.room_model.specs.Rooms.{StandsFor, point_in}
 use Rattle.room_model.specs.Writes.{stored_in, stores_behind, writes_of}
 use Rattle.room_laws.proofs.MapLaws.{layouts}
 use Rattle.life_model.specs.declared.life.Outcome.{Outcome}
 use Rattle.life_model.specs.declared.life.Outcome.TheVariants.{Finished, Stalled, Cut, Starved}
-use Rattle.life_model.specs.Life.{place_after, next_command, saved}
-use Rattle.life_model.specs.Present.{IsUnderWay, AreAscending, AreNoneHeld}
-use Rattle.life_laws.proofs.Words.{record_words}
-use Rattle.yard_model.specs.declared.room.Room.{Room}
+use Rattle.life_model.specs.Life.{point_after, next_command, covered, contents_now}
+use Rattle.life_model.specs.Present.{IsUnderWay, AreAscending, HoldsNoneAt}
+use Rattle.room_laws.proofs.Words.{words as same_words}
+use Rattle.rooms.specs.declared.room.Room.{Room}
 use Rattle.yard_model.specs.declared.view.Phase.{Phase}
 use Rattle.yard_model.specs.declared.view.Phase.TheVariants.{Standing, Running, Closing}
 use Rattle.yard_model.specs.declared.view.Beginning.{Beginning}
 use Rattle.yard_model.specs.declared.view.View.{View}
 use Rattle.yard_model.specs.declared.view.GivenBack.{GivenBack}
-use Rattle.yard_model.specs.declared.view.Released.{Released}
-use Rattle.yard_model.specs.Rooms.{loads}
-use Rattle.yard_model.specs.Beginnings.{opening_of, sizes_at, marks_of, epoch_now, saved_part, is_over, contents_behind}
+use Rattle.yard_model.specs.declared.view.Checkpoint.{Checkpoint}
+use Rattle.rooms.specs.Rooms.{loads}
+use Rattle.yard_model.specs.Beginnings.{opening_of, sizes_at, marks_of, epoch_now, covered_part, is_over}
 use Rattle.yard_model.specs.Knows.{stands, is_closing}
-use Rattle.yard_model.specs.World.{World, lock_of, dead, Home, total_of}
+use Rattle.yard_model.specs.World.{YardState, lock_of, dead, Home, total_of}
 use Rattle.yard_model.specs.Dead.{LoadsFirstStores, stores_here, begun_by}
 use Rattle.yard_model.specs.Lawful.{Lawful}
-use Rattle.yard_model.specs.Lives.{IsMemoryOf, NamesDead, EndsOver, LifeIsPresent}
+use Rattle.yard_model.specs.Lives.{IsMemoryOf, NamesDead, LifeIsPresentLaw}
+use Rattle.yard_model.specs.Outcomes.{ShowsEnd}
 use Rattle.yard_laws.proofs.Lists.{there}
 use Rattle.yard_laws.proofs.Views.{total_part, total_few}
 use Rattle.yard_laws.proofs.Knowns.{last_same}
 use Rattle.yard_laws.proofs.Safe.{epoch_same}
 use Rattle.yard_laws.proofs.Arrivals.{stands_gave_none}
+use Rattle.seq_object.specs.Sizes.{thread_room, room_count}
 
 -- HOW MANY ROOMS WERE GIVEN BACK
 
@@ -107,7 +110,7 @@ nothing : (n : ℕ) → take n no_stores ≡ no_stores
 nothing zero = refl
 nothing (suc n) = refl
 
-module _ (b : Beginning) (w : World) (h : List Entry) (ms : List Released) (memory : List BankState) (held : List ℕ) (l : Lawful b w h ms) (m : IsMemoryOf b w memory) (names : NamesDead b w held) where
+module _ (b : Beginning) (w : YardState) (h : List Entry) (cs : List Checkpoint) (memory : List BankState) (held : List ℕ) (l : Lawful b w h cs) (m : IsMemoryOf b w memory) (names : NamesDead b w held) where
   home_at : (r : ℕ) (lt : r < room_count (sizes_at b)) → Home w r ((m.rooms r lt).0)
   home_at r lt = (m.rooms r lt).1
 
@@ -126,15 +129,15 @@ module _ (b : Beginning) (w : World) (h : List Entry) (ms : List Released) (memo
 
   -- a room that was given back stands, or a command is under way in it
   began : (k : GivenBack) (i : ℕ) (x : Room) (command : Option Command) → (command ≡ None) ⊎ (command ≡ next_command (opening_of b) h i)
-      → LoadsFirstStores (sizes_at b) (epoch_now b ms) k.room command x (contents_behind b h)
-      → StandsFor map_layout (sizes_at b) k.room (loads x) (contents_behind b h) ⊎ IsUnderWay (opening_of b) h (marks_of b ms) k.room (loads x)
-  began k i x None which f = inl (record_words map_layout (sizes_at b) k.room f.before (loads x) (contents_behind b h) layouts.in_use (λ line word lt. sym (f.loads line word ∙ none f.made f.before line word)) f.stood)
+      → LoadsFirstStores (sizes_at b) (epoch_now b cs) k.room command x (contents_now (opening_of b) h)
+      → StandsFor live_layout (sizes_at b) k.room (loads x) (contents_now (opening_of b) h) ⊎ IsUnderWay (opening_of b) h (marks_of b cs) k.room (loads x)
+  began k i x None which f = inl (same_words live_layout (sizes_at b) k.room f.before (loads x) (contents_now (opening_of b) h) layouts.in_use f.stood (λ line word lt. f.loads line word ∙ none f.made f.before line word))
     where
       none : (n : ℕ) (before : RoomWords) (line word : ℕ) → stored_in before (take n []) line word ≡ before line word
       none n before line word = ap (λ (ss : List PlannedStore). stored_in before ss line word) (nothing n)
   began k i x (Some command) which f = dite (ℕ_discrete (room_of (sizes_at b) command) k.room) here elsewhere
     where
-      here : room_of (sizes_at b) command ≡ k.room → StandsFor map_layout (sizes_at b) k.room (loads x) (contents_behind b h) ⊎ IsUnderWay (opening_of b) h (marks_of b ms) k.room (loads x)
+      here : room_of (sizes_at b) command ≡ k.room → StandsFor live_layout (sizes_at b) k.room (loads x) (contents_now (opening_of b) h) ⊎ IsUnderWay (opening_of b) h (marks_of b cs) k.room (loads x)
       here is = inr (record {
         thread = i;
         command = command;
@@ -143,19 +146,19 @@ module _ (b : Beginning) (w : World) (h : List Entry) (ms : List Released) (memo
         before = f.before;
         stood = f.stood;
         made = f.made;
-        loads = subst (λ (n : ℕ). (line word : ℕ) → loads x line word ≡ stored_in f.before (take f.made (stores_here (sizes_at b) n k.room f.before (Some command))) line word) (sym (epoch_same b ms)) f.loads;
+        loads = subst (λ (n : ℕ). (line word : ℕ) → loads x line word ≡ stored_in f.before (take f.made (stores_here (sizes_at b) n k.room f.before (Some command))) line word) (sym (epoch_same b cs)) f.loads;
       })
         where
           next : (Some command ≡ None) ⊎ (Some command ≡ next_command (opening_of b) h i) → next_command (opening_of b) h i ≡ Some command
           next (inl e) = absurd (cc)
           next (inr e) = sym e
 
-      none : room_of (sizes_at b) command ≢ k.room → (line word : ℕ) → stored_in f.before (take f.made (stores_here (sizes_at b) (epoch_now b ms) k.room f.before (Some command))) line word ≡ f.before line word
-      none n line word = ap (λ (c : Bool). stored_in f.before (take f.made (cond c (stores_behind (epoch_now b ms) f.before [] (writes_of map_layout (sizes_at b) f.before command)) [])) line word) (ne_eqb (room_of (sizes_at b) command) k.room n)
+      none : room_of (sizes_at b) command ≢ k.room → (line word : ℕ) → stored_in f.before (take f.made (stores_here (sizes_at b) (epoch_now b cs) k.room f.before (Some command))) line word ≡ f.before line word
+      none n line word = ap (λ (c : Bool). stored_in f.before (take f.made (cond c (stores_behind (epoch_now b cs) f.before [] (writes_of live_layout (sizes_at b) f.before command)) [])) line word) (ne_eqb (room_of (sizes_at b) command) k.room n)
           ∙ ap (λ (ss : List PlannedStore). stored_in f.before ss line word) (nothing f.made)
 
-      elsewhere : room_of (sizes_at b) command ≢ k.room → StandsFor map_layout (sizes_at b) k.room (loads x) (contents_behind b h) ⊎ IsUnderWay (opening_of b) h (marks_of b ms) k.room (loads x)
-      elsewhere n = inl (record_words map_layout (sizes_at b) k.room f.before (loads x) (contents_behind b h) layouts.in_use (λ line word lt. sym (f.loads line word ∙ none n line word)) f.stood)
+      elsewhere : room_of (sizes_at b) command ≢ k.room → StandsFor live_layout (sizes_at b) k.room (loads x) (contents_now (opening_of b) h) ⊎ IsUnderWay (opening_of b) h (marks_of b cs) k.room (loads x)
+      elsewhere n = inl (same_words live_layout (sizes_at b) k.room f.before (loads x) (contents_now (opening_of b) h) layouts.in_use f.stood (λ line word lt. f.loads line word ∙ none n line word))
 
   which_command : (drew closing : Bool) (next : Option Command) → (begun_by drew closing next ≡ None) ⊎ (begun_by drew closing next ≡ next)
   which_command true closing next = inl refl
@@ -165,54 +168,55 @@ module _ (b : Beginning) (w : World) (h : List Entry) (ms : List Released) (memo
   to_memory : (P : RoomWords → Type 0) (r : ℕ) (lt : r < room_count (sizes_at b)) → P (loads ((m.rooms r lt).0)) → P (load_of memory r)
   to_memory P r lt p = subst (λ (bank : BankState). P (bank_load bank)) (sym ((m.rooms r lt).2)) p
 
-  out_loads : (r : ℕ) → r ≤ b.settings.shards → Contains held r → StandsFor map_layout (sizes_at b) r (load_of memory r) (contents_behind b h) ⊎ IsUnderWay (opening_of b) h (marks_of b ms) r (load_of memory r)
+  out_loads : (r : ℕ) → r ≤ b.settings.shards → Contains held r → StandsFor live_layout (sizes_at b) r (load_of memory r) (contents_now (opening_of b) h) ⊎ IsUnderWay (opening_of b) h (marks_of b cs) r (load_of memory r)
   out_loads r low t = let d = names.are_dead r t in let g = l.locks.giver r d.0 d.1 in
-      to_memory (λ (words : RoomWords). StandsFor map_layout (sizes_at b) r words (contents_behind b h) ⊎ IsUnderWay (opening_of b) h (marks_of b ms) r words) r d.0
-      (subst (λ (q : ℕ). StandsFor map_layout (sizes_at b) q (loads ((m.rooms r d.0).0)) (contents_behind b h) ⊎ IsUnderWay (opening_of b) h (marks_of b ms) q (loads ((m.rooms r d.0).0))) g.3.2
+      to_memory (λ (words : RoomWords). StandsFor live_layout (sizes_at b) r words (contents_now (opening_of b) h) ⊎ IsUnderWay (opening_of b) h (marks_of b cs) r words) r d.0
+      (subst (λ (q : ℕ). StandsFor live_layout (sizes_at b) q (loads ((m.rooms r d.0).0)) (contents_now (opening_of b) h) ⊎ IsUnderWay (opening_of b) h (marks_of b cs) q (loads ((m.rooms r d.0).0))) g.3.2
       (began g.3.0 g.0 ((m.rooms r d.0).0) (begun_by g.3.0.drew (is_closing g.1.phase) (next_command (opening_of b) h g.0)) (which_command g.3.0.drew (is_closing g.1.phase) (next_command (opening_of b) h g.0))
       (l.loads.dead_room g.0 g.1 g.2 g.3.0 g.3.1 (let n = g.3.2 in omega (arith, low, n)) ((m.rooms r d.0).0) (subst (λ (q : ℕ). Home w q ((m.rooms r d.0).0)) (sym g.3.2) (home_at r d.0)))))
 
-  position_loads : (i : ℕ) → i < b.settings.threads → (Contains held (thread_room (sizes_at b) i) → ⊥)
-      → (load_of memory (thread_room (sizes_at b) i) 0 0 ≡ place_after (opening_of b) (take (saved (marks_of b ms)) h) i) ⊎ (load_of memory (thread_room (sizes_at b) i) 0 0 ≡ place_after (opening_of b) h i)
-  position_loads i few out =
+  point_loads : (i : ℕ) → i < b.settings.threads → (Contains held (thread_room (sizes_at b) i) → ⊥)
+      → (point_in live_layout (load_of memory (thread_room (sizes_at b) i)) ≡ point_after (opening_of b) (take (covered (marks_of b cs)) h) i)
+      ⊎ (point_in live_layout (load_of memory (thread_room (sizes_at b) i)) ≡ point_after (opening_of b) h i)
+  point_loads i few out =
       let lt : thread_room (sizes_at b) i < room_count (sizes_at b) = omega (arith, few) in
       let t = there w.views i (let n = l.sized.views in omega (arith, few, n)) in
       let f = l.positions.views i t.0 t.1 ((m.rooms (thread_room (sizes_at b) i) lt).0) (home_at (thread_room (sizes_at b) i) lt) in
       let z = free_or_named (thread_room (sizes_at b) i) lt out in
-      to_memory (λ (words : RoomWords). (words 0 0 ≡ place_after (opening_of b) (take (saved (marks_of b ms)) h) i) ⊎ (words 0 0 ≡ place_after (opening_of b) h i)) (thread_room (sizes_at b) i) lt
-      (subst (λ (es : List Entry). (loads ((m.rooms (thread_room (sizes_at b) i) lt).0) 0 0 ≡ place_after (opening_of b) es i) ⊎ (loads ((m.rooms (thread_room (sizes_at b) i) lt).0) 0 0 ≡ place_after (opening_of b) h i)) (ap (λ (d : ℕ). take d h) (sym (last_same b ms)))
-      (by t.0 (place_after (opening_of b) h i) (place_after (opening_of b) (saved_part h ms) i) (loads ((m.rooms (thread_room (sizes_at b) i) lt).0) 0 0) t.0.phase refl t.0.wrote refl (λ s. (f.standing s).position) (λ p s. (f.written z p s).position) (λ p s. f.unwritten z p s)))
+      to_memory (λ (words : RoomWords). (point_in live_layout words ≡ point_after (opening_of b) (take (covered (marks_of b cs)) h) i) ⊎ (point_in live_layout words ≡ point_after (opening_of b) h i)) (thread_room (sizes_at b) i) lt
+      (subst (λ (es : List Entry). (point_in live_layout (loads ((m.rooms (thread_room (sizes_at b) i) lt).0)) ≡ point_after (opening_of b) es i) ⊎ (point_in live_layout (loads ((m.rooms (thread_room (sizes_at b) i) lt).0)) ≡ point_after (opening_of b) h i)) (ap (λ (d : ℕ). take d h) (sym (last_same b cs)))
+      (by t.0 (point_after (opening_of b) h i) (point_after (opening_of b) (covered_part h cs) i) (point_in live_layout (loads ((m.rooms (thread_room (sizes_at b) i) lt).0))) t.0.phase refl t.0.wrote refl (λ s. (f.standing s).point) (λ p s. (f.written z p s).point) (λ p s. f.unwritten z p s)))
     where
-      by : (v : View) (place saved' load : ℕ) (p : Phase) → v.phase ≡ p → (wrote : Bool) → v.wrote ≡ wrote → (stands v.phase ≡ true → load ≡ place)
-          → (v.phase ≡ Running → v.wrote ≡ true → load ≡ place) → (v.phase ≡ Running → v.wrote ≡ false → load ≡ saved') → (load ≡ saved') ⊎ (load ≡ place)
-      by v place saved' load Standing is wrote s f g k = inr (f (ap stands is))
-      by v place saved' load Running is true s f g k = inr (g is s)
-      by v place saved' load Running is false s f g k = inl (k is s)
-      by v place saved' load Closing is wrote s f g k = inr (f (ap stands is))
+      by : (v : View) (now marked load : RestartPoint) (p : Phase) → v.phase ≡ p → (wrote : Bool) → v.wrote ≡ wrote → (stands v.phase ≡ true → load ≡ now)
+          → (v.phase ≡ Running → v.wrote ≡ true → load ≡ now) → (v.phase ≡ Running → v.wrote ≡ false → load ≡ marked) → (load ≡ marked) ⊎ (load ≡ now)
+      by v now marked load Standing is wrote s f g k = inr (f (ap stands is))
+      by v now marked load Running is true s f g k = inr (g is s)
+      by v now marked load Running is false s f g k = inl (k is s)
+      by v now marked load Closing is wrote s f g k = inr (f (ap stands is))
 
   -- where the life is over no room was given back
-  none_named : is_over b ms ≡ true → held ≡ []
+  none_named : is_over b cs ≡ true → held ≡ []
   none_named over = by held names.are_dead
     where
       by : (rs : List ℕ) → ((r : ℕ) → Contains rs r → (r < room_count (sizes_at b)) × (lock_of w r ≡ dead)) → rs ≡ []
       by [] each = refl
       by (r ∷ rs) each = let d = each r (0, omega arith, refl) in let g = l.locks.giver r d.0 d.1 in
-          absurd (stands_gave_none b w h ms l g.0 g.1 g.2 (l.arrival.over_stands g.0 g.1 g.2 over) g.3.0 g.3.1)
+          absurd (stands_gave_none b w h cs l g.0 g.1 g.2 (l.arrival.over_stands g.0 g.1 g.2 over) g.3.0 g.3.1)
 
-  none_held : (outcome : Outcome) → EndsOver outcome b ms → AreNoneHeld outcome held
-  none_held Finished o = none_named o
-  none_held Stalled o = none_named o
+  none_held : (outcome : Outcome) → ShowsEnd outcome b w cs → HoldsNoneAt outcome held
+  none_held Finished o = none_named o.0
+  none_held Stalled o = none_named o.0
   none_held Cut o = tt
   none_held Starved o = tt
 
-pub life_is_present : LifeIsPresent
-life_is_present b w h ms memory held outcome l m names ends = record {
+pub life_is_present : LifeIsPresentLaw
+life_is_present b w h cs memory held outcome l m names ends = record {
   home = λ r low out. let lt : r < room_count (sizes_at b) = omega (arith, low) in
-      to_memory b w h ms memory held l m names (λ (words : RoomWords). StandsFor map_layout (sizes_at b) r words (contents_behind b h)) r lt
-      (l.loads.free r ((m.rooms r lt).0) ((m.rooms r lt).1) low (free_or_named b w h ms memory held l m names r lt out));
-  out = out_loads b w h ms memory held l m names;
-  positions = position_loads b w h ms memory held l m names;
+      to_memory b w h cs memory held l m names (λ (words : RoomWords). StandsFor live_layout (sizes_at b) r words (contents_now (opening_of b) h)) r lt
+      ((l.rooms.free r ((m.rooms r lt).0) ((m.rooms r lt).1) (free_or_named b w h cs memory held l m names r lt out)).stands low);
+  out = out_loads b w h cs memory held l m names;
+  points = point_loads b w h cs memory held l m names;
   ascending = names.ascending;
-  few = few_held b w h ms memory held l m names;
-  none = none_held b w h ms memory held l m names outcome ends;
+  few = few_held b w h cs memory held l m names;
+  none = none_held b w h cs memory held l m names outcome ends;
 }

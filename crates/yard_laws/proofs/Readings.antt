@@ -3,27 +3,29 @@
 use Rattle.std.proofs.Common.{◌≡◌, ℕ, ◌<◌, ◌==◌, not, Bool, true, false, eq-eqb, List, [], ◌∷◌, length, map, sym, refl, ap, ◌∙◌, subst, inl, inr}
 use Rattle.std.proofs.lemmas.Bool.{ne_eqb}
 use Rattle.seq_object.specs.declared.history.Entry.{Entry}
-use Rattle.seq_object.specs.Sizes.{Sizes}
 use Rattle.seq_object.specs.Object.{Contents, part_of}
 use Rattle.seq_object.specs.History.{of_room, contents_at}
 use Rattle.seq_object.proofs.Rooms.{room_after}
 use Rattle.line_memory.specs.Line.{BankState, line_at, bank_load}
 use Rattle.room_model.specs.Chains.{RoomWords, IsChain}
-use Rattle.room_model.specs.MapRoom.{map_layout}
-use Rattle.room_model.specs.Rooms.{StandsFor}
+use Rattle.room_model.specs.MapRoom.{live_layout}
+use Rattle.room_model.specs.Rooms.{StandsFor, point_in}
 use Rattle.room_laws.proofs.MapLaws.{layouts}
 use Rattle.room_laws.proofs.OneContents.{parts}
 use Rattle.room_laws.proofs.Standing.{queue_of}
-use Rattle.life_laws.proofs.Words.{record_words, room_stands}
+use Rattle.room_laws.proofs.Words.{words as same_words, point_words}
+use Rattle.life_laws.proofs.Parts.{room_stands}
 use Rattle.incll_var.specs.declared.state.CellState.{CellState}
 use Rattle.incll_var.specs.declared.state.CellState.TheVariants.{Torn, Running, Closing, Saved}
-use Rattle.incll_var.specs.Cells.{CellBankState, IsCellBank, IsCellIn, held_at}
+use Rattle.incll_var.specs.Cells.{CellBankState, IsCellBank, IsCellIn, IsSavedIn, IsRunning}
 use Rattle.incll_var.proofs.Survivors.{saved_room}
-use Rattle.yard_model.specs.declared.room.Room.{Room}
-use Rattle.yard_model.specs.declared.room.Room.TheVariants.{Map, Queue, Thread, Super}
-use Rattle.yard_model.specs.Rooms.{bank_of, cells_of, state_of, loads, held_in, is_empty_queue, IsSavedIn}
+use Rattle.rooms.specs.declared.room.Room.{Room}
+use Rattle.rooms.specs.declared.room.Room.TheVariants.{Map, Queue, Thread, Super}
+use Rattle.rooms.specs.Rooms.{bank_of, cells_of, state_of, loads, is_empty_queue}
 use Rattle.yard_model.specs.Beginnings.{has_items}
-use Rattle.yard_model.specs.Facts.{IsFreeState, IsDeadState, AreRunning}
+use Rattle.room_model.specs.Banks.{memory_words}
+use Rattle.yard_model.specs.Homes.{IsFreeState, IsDeadState}
+use Rattle.seq_object.specs.declared.sizes.Sizes.{Sizes}
 
 pub same_bank : (x : Room) → (cells_of x).bank ≡ bank_of x
 same_bank (Map x) = refl
@@ -39,7 +41,7 @@ earlier P Q (Running c) f s = s
 earlier P Q (Closing c) f s = s
 earlier P Q (Saved c) f s = f c s
 
-pub not_running : (P : ℕ → Type 0) (state : CellState) → IsSavedIn P state → AreRunning state → ⊥
+pub not_running : (P : ℕ → Type 0) (state : CellState) → IsSavedIn P state → IsRunning state → ⊥
 not_running P (Torn c) s r = s
 not_running P (Running c) s r = s
 not_running P (Closing c) s r = s
@@ -51,14 +53,7 @@ free_state epoch done (Running c) s = absurd s
 free_state epoch done (Closing c) s = absurd s
 free_state epoch done (Saved c) s = inl s
 
--- where more is done, or a thread closes, no fewer states are lawful
-pub free_more : (epoch : ℕ) (a b : Bool) (state : CellState) → (a ≡ true → b ≡ true) → IsFreeState epoch a state → IsFreeState epoch b state
-free_more epoch a b (Torn c) f s = s
-free_more epoch a b (Running c) f s = s
-free_more epoch a b (Closing c) f s = s
-free_more epoch a b (Saved c) f (inl s) = inl s
-free_more epoch a b (Saved c) f (inr s) = inr (s.0, f s.1)
-
+-- where a thread closes, no fewer states are lawful
 pub dead_more : (epoch : ℕ) (a b : Bool) (state : CellState) → (a ≡ true → b ≡ true) → IsDeadState epoch a state → IsDeadState epoch b state
 dead_more epoch a b (Torn c) f s = s
 dead_more epoch a b (Running c) f s = s
@@ -67,7 +62,7 @@ dead_more epoch a b (Saved c) f (inl s) = inl s
 dead_more epoch a b (Saved c) f (inr s) = inr (s.0, f s.1)
 
 -- a free room that does not run was saved in an epoch before, or is done
-pub free_saved : (epoch : ℕ) (state : CellState) → IsFreeState epoch false state → (AreRunning state → ⊥) → IsSavedIn (λ c. c < epoch) state
+pub free_saved : (epoch : ℕ) (state : CellState) → IsFreeState epoch false state → (IsRunning state → ⊥) → IsSavedIn (λ c. c < epoch) state
 free_saved epoch (Torn c) s n = absurd s
 free_saved epoch (Running c) s n = absurd (n tt)
 free_saved epoch (Closing c) s n = absurd s
@@ -85,31 +80,35 @@ nothing_pending P b (Saved c) is cells s i lt = (subst (λ (state : CellState). 
 
 -- saved cells, as memory holds them at a later epoch and by their loads
 cells_as_loaded : (epoch : ℕ) (b : CellBankState) (state : CellState) → b.state ≡ state → IsCellBank b → IsSavedIn (λ c. c < epoch) state → (line word : ℕ) → word < 3
-    → held_at epoch b.bank line word ≡ bank_load b.bank line word
+    → memory_words epoch b.bank line word ≡ bank_load b.bank line word
 cells_as_loaded epoch b (Torn c) is cells s line word lt = absurd s
 cells_as_loaded epoch b (Running c) is cells s line word lt = absurd s
 cells_as_loaded epoch b (Closing c) is cells s line word lt = absurd s
 cells_as_loaded epoch b (Saved c) is cells s line word lt = saved_room b c epoch (λ _. 0) cells is s line word lt
 
-pub saved_as_loaded : (epoch : ℕ) (x : Room) → IsCellBank (cells_of x) → IsSavedIn (λ c. c < epoch) (state_of x) → (line word : ℕ) → word < 3 → held_in epoch x line word ≡ loads x line word
-saved_as_loaded epoch x cells saved line word lt = subst (λ (b : BankState). held_at epoch b line word ≡ bank_load b line word) (same_bank x) (cells_as_loaded epoch (cells_of x) (state_of x) refl cells saved line word lt)
+pub saved_as_loaded : (epoch : ℕ) (x : Room) → IsCellBank (cells_of x) → IsSavedIn (λ c. c < epoch) (state_of x) → (line word : ℕ) → word < 3 → memory_words epoch (bank_of x) line word ≡ loads x line word
+saved_as_loaded epoch x cells saved line word lt = subst (λ (b : BankState). memory_words epoch b line word ≡ bank_load b line word) (same_bank x) (cells_as_loaded epoch (cells_of x) (state_of x) refl cells saved line word lt)
 
--- so such a room stands at the later epoch for what it stands for by its loads
-pub stands_held : (z : Sizes) (r epoch : ℕ) (x : Room) (c : Contents) → IsCellBank (cells_of x) → IsSavedIn (λ c. c < epoch) (state_of x) → StandsFor map_layout z r (loads x) c → StandsFor map_layout z r (held_in epoch x) c
-stands_held z r epoch x c cells saved s = record_words map_layout z r (loads x) (held_in epoch x) c layouts.in_use (λ line w lt. sym (saved_as_loaded epoch x cells saved line w lt)) s
+-- so memory has the restart point that such a room loads
+pub point_as_loaded : (epoch : ℕ) (x : Room) → IsCellBank (cells_of x) → IsSavedIn (λ c. c < epoch) (state_of x) → point_in live_layout (memory_words epoch (bank_of x)) ≡ point_in live_layout (loads x)
+point_as_loaded epoch x cells saved = point_words live_layout (loads x) (memory_words epoch (bank_of x)) (λ line w lt. saved_as_loaded epoch x cells saved line w lt)
+
+-- and such a room stands at the later epoch for what it stands for by its loads
+pub stands_held : (z : Sizes) (r epoch : ℕ) (x : Room) (c : Contents) → IsCellBank (cells_of x) → IsSavedIn (λ c. c < epoch) (state_of x) → StandsFor live_layout z r (loads x) c → StandsFor live_layout z r (memory_words epoch (bank_of x)) c
+stands_held z r epoch x c cells saved s = same_words live_layout z r (loads x) (memory_words epoch (bank_of x)) c layouts.in_use s (λ line w lt. saved_as_loaded epoch x cells saved line w lt)
 
 -- by its own entries from its part of the beginning, and by all entries
-pub stands_whole : (z : Sizes) (c : Contents) (h : List Entry) (r : ℕ) (words : RoomWords) → 0 < z.shards → StandsFor map_layout z r words (contents_at z (part_of z r c) (of_room z r h)) → StandsFor map_layout z r words (contents_at z c h)
-stands_whole z c h r words some s = room_stands map_layout z c h r words some s
+pub stands_whole : (z : Sizes) (c : Contents) (h : List Entry) (r : ℕ) (words : RoomWords) → 0 < z.shards → StandsFor live_layout z r words (contents_at z (part_of z r c) (of_room z r h)) → StandsFor live_layout z r words (contents_at z c h)
+stands_whole z c h r words some s = room_stands live_layout z c h r words some s
 
-pub stands_alone : (z : Sizes) (c : Contents) (h : List Entry) (r : ℕ) (words : RoomWords) → 0 < z.shards → StandsFor map_layout z r words (contents_at z c h) → StandsFor map_layout z r words (contents_at z (part_of z r c) (of_room z r h))
-stands_alone z c h r words some s = subst (λ (d : Contents). StandsFor map_layout z r words d) (room_after z some c h r) (parts.part map_layout z r words (contents_at z c h) s)
+pub stands_alone : (z : Sizes) (c : Contents) (h : List Entry) (r : ℕ) (words : RoomWords) → 0 < z.shards → StandsFor live_layout z r words (contents_at z c h) → StandsFor live_layout z r words (contents_at z (part_of z r c) (of_room z r h))
+stands_alone z c h r words some s = subst (λ (d : Contents). StandsFor live_layout z r words d) (room_after z some c h r) (parts.part live_layout z r words (contents_at z c h) s)
 
 -- the queue room has a first line exactly where the list has an item
 chain_items : (next value : ℕ → ℕ) (start : ℕ) (lines : List ℕ) → IsChain next start lines → (start == 0) ≡ not (has_items (map value lines))
 chain_items next value start [] c = eq-eqb start 0 c
 chain_items next value start (x ∷ xs) c = ne_eqb start 0 (λ e. c.1 (sym c.0 ∙ e))
 
-pub queue_empty : (z : Sizes) (x : Room) (c : Contents) → StandsFor map_layout z z.shards (loads x) c → is_empty_queue x ≡ not (has_items c.items)
-queue_empty z x c s = let q = queue_of map_layout z (loads x) c s in
+pub queue_empty : (z : Sizes) (x : Room) (c : Contents) → StandsFor live_layout z z.shards (loads x) c → is_empty_queue x ≡ not (has_items c.items)
+queue_empty z x c s = let q = queue_of live_layout z (loads x) c s in
     chain_items (λ y. loads x y 1) (λ y. loads x y 0) (loads x 1 0) q.chain q.chained ∙ ap (λ (items : List ℕ). not (has_items items)) (sym q.listed)

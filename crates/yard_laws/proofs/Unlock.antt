@@ -1,39 +1,45 @@
 -- A room goes home.
-use Rattle.std.proofs.Common.{◌≡◌, ◌≢◌, ℕ, zero, suc, ◌+◌, ◌*◌, ◌<◌, ◌≤◌, ◌⊎◌, ◌==◌, ◌&&◌, ◌||◌, not, cond, Bool, true, false, List, [], ◌∷◌, ◌++◌, length, take, sym, refl, ap, ◌∙◌, subst, ⊎_elim, inl, inr, arith, Option, Some, length-append, eq-eqb}
+use Rattle.std.proofs.Common.{◌≡◌, ◌≢◌, ℕ, zero, suc, ◌+◌, ◌<◌, ◌≤◌, ◌⊎◌, ◌==◌, ◌&&◌, ◌||◌, not, cond, Bool, true, false, List, [], ◌∷◌, ◌++◌, length, take, sym, refl, ap, ◌∙◌, subst, ⊎_elim, inl, inr, arith, Option, Some, length-append, eq-eqb}
 use mathlib.Core.Logic.{dite}
 use native.Mathlib.Decide.{ℕ_discrete}
 use Rattle.std.proofs.Math.Seq.{take-length}
 use Rattle.std.proofs.lemmas.Bool.{lt-ltb, le-ltb, ltb-true, ne_eqb, cases_lt}
-use Rattle.std.specs.Prelude.{nat_lt, nat_le, slice_get, is_none}
+use Rattle.std.specs.Prelude.{nat_lt, slice_get, is_none}
 use Rattle.seq_object.specs.declared.command.Command.{Command}
 use Rattle.seq_object.specs.declared.history.Entry.{Entry}
-use Rattle.life_model.specs.Life.{place_after, next_command}
-use Rattle.room_model.specs.MapRoom.{map_layout}
-use Rattle.room_model.specs.Rooms.{thread_room, super_room, room_count, StandsFor}
+use Rattle.seq_object.specs.declared.history.RestartPoint.{RestartPoint}
+use Rattle.life_model.specs.Life.{point_after, next_command, contents_now}
+use Rattle.room_model.specs.MapRoom.{live_layout}
+use Rattle.room_model.specs.Rooms.{StandsFor}
 use Rattle.restart_point.specs.declared.thread_end.ThreadEnd.{ThreadEnd}
-use Rattle.yard_model.specs.declared.room.Room.{Room}
+use Rattle.rooms.specs.declared.room.Room.{Room}
 use Rattle.yard_model.specs.declared.view.Phase.{Phase}
 use Rattle.yard_model.specs.declared.view.Phase.TheVariants.{Standing, Running, Closing}
 use Rattle.yard_model.specs.declared.view.Beginning.{Beginning}
 use Rattle.yard_model.specs.declared.view.View.{View}
 use Rattle.yard_model.specs.declared.view.Grip.{Grip}
-use Rattle.yard_model.specs.declared.view.GivenBack.{GivenBack}
-use Rattle.yard_model.specs.declared.view.Released.{Released}
-use Rattle.yard_model.specs.Rooms.{bank_of, state_of, history_of, end_of, loads, is_empty_queue, lines_unasked, IsSavedIn}
-use Rattle.yard_model.specs.Beginnings.{opening_of, sizes_at, last_length, saved_part, epoch_now, has_items, contents_behind, is_fed, opening_write_backs}
+use Rattle.yard_model.specs.declared.view.Checkpoint.{Checkpoint}
+use Rattle.rooms.specs.Rooms.{state_of, history_of, end_of, loads, is_empty_queue}
+use Rattle.yard_model.specs.Beginnings.{opening_of, sizes_at, covered_by, covered_part, epoch_now, has_items, is_fed}
 use Rattle.yard_model.specs.Knows.{stands, is_closing, HasCause, MayHold, IsAtPlace}
-use Rattle.yard_model.specs.World.{World, lock_of, ViewIs, Home, closes, done_in, done_by}
-use Rattle.yard_model.specs.Facts.{IsInEpoch, IsFreeState, IsDeadState, position_bound, free_bound, IsSafeRoom, AreRunning, KeepsPosition, IsEpochRoom, threads_done, HasLearnt}
+use Rattle.yard_model.specs.World.{YardState, lock_of, ViewIs, Home, done_in, done_by}
 use Rattle.yard_model.specs.Lawful.{Lawful}
-use Rattle.yard_laws.proofs.Lists.{at_inside, each_set}
+use Rattle.yard_laws.proofs.Lists.{each_set}
 use Rattle.yard_laws.proofs.Views.{total_set}
-use Rattle.yard_laws.proofs.Knowns.{known_place, known_next, last_few}
-use Rattle.yard_laws.proofs.Readings.{not_running, free_more, queue_empty}
-use Rattle.yard_laws.proofs.Arrivals.{on_gave_none, others_stand}
-use Rattle.yard_model.specs.Views.{freed, wrote_after, found_after, finds_empty, closed_after, is_thread_room}
+use Rattle.yard_laws.proofs.Knowns.{known_point, known_next, last_few}
+use Rattle.yard_laws.proofs.Readings.{not_running, queue_empty}
+use Rattle.yard_laws.proofs.Homes.{free_by_life}
+use Rattle.yard_laws.proofs.Arrivals.{on_gave_none, others_stand, below_threads}
+use Rattle.yard_model.specs.Views.{freed, found_after, finds_empty, closed_after, is_thread_room}
 use Rattle.yard_model.specs.Conditions.{MayUnlock}
 use Rattle.yard_model.specs.Steps.{at_unlock}
-use Rattle.yard_model.specs.Laws.{UnlockKeeps}
+use Rattle.yard_model.specs.Laws.{UnlockKeepsLaw}
+use Rattle.incll_var.specs.Cells.{IsRunning}
+use Rattle.yard_model.specs.Epochs.{IsInEpoch}
+use Rattle.yard_model.specs.Homes.{IsFreeHome}
+use Rattle.yard_model.specs.Positions.{KeepsPosition, IsStored}
+use Rattle.yard_model.specs.Closings.{threads_done, HasLearnt}
+use Rattle.seq_object.specs.Sizes.{thread_room, super_room, room_count}
 use Rattle.yard_laws.proofs.Returns as returns
 
 or_right : (c : Bool) → (c || true) ≡ true
@@ -81,46 +87,40 @@ get_front [] e k lt = absurd (omega (arith, lt))
 get_front (x ∷ es) e zero lt = refl
 get_front (x ∷ es) e (suc k) lt = get_front es e k (omega (arith, lt))
 
-module _ (b : Beginning) (w : World) (h : List Entry) (ms : List Released) (i : ℕ) (v : View) (g : Grip) (x : Room)
-    (l : Lawful b w h ms) (at : ViewIs w i v) (may : MayUnlock v g x) where
+module _ (b : Beginning) (w : YardState) (h : List Entry) (cs : List Checkpoint) (i : ℕ) (v : View) (g : Grip) (x : Room)
+    (l : Lawful b w h cs) (at : ViewIs w i v) (may : MayUnlock v g x) where
   abbrev u : View
   u = freed v g x
 
   abbrev r : ℕ
   r = g.room
 
-  abbrev next : World
+  abbrev next : YardState
   next = at_unlock w i r x u
 
   abbrev now : ℕ
-  now = epoch_now b ms
+  now = epoch_now b cs
 
   within : r < room_count (sizes_at b)
-  within = returns.within b w h ms i v u g x 0 l at may.held may.kept refl refl refl
+  within = returns.within b w h cs i v u g x 0 l at may.held may.kept refl refl refl
 
   may_hold : MayHold (sizes_at b) i v.phase v.closed.rooms r
-  may_hold = returns.may_hold b w h ms i v u g x 0 l at may.held may.kept refl refl refl
+  may_hold = returns.may_hold b w h cs i v u g x 0 l at may.held may.kept refl refl refl
 
   not_standing : v.phase ≡ Standing → ⊥
-  not_standing = returns.not_standing b w h ms i v u g x 0 l at may.held may.kept refl refl refl
+  not_standing = returns.not_standing b w h cs i v u g x 0 l at may.held may.kept refl refl refl
 
   runs_now : v.ran ≡ now
-  runs_now = returns.runs_now b w h ms i v u g x 0 l at may.held may.kept refl refl refl
-
-  same_beginning : v.beginning ≡ b
-  same_beginning = l.sized.beginnings i v at
+  runs_now = returns.runs_now b w h cs i v u g x 0 l at may.held may.kept refl refl refl
 
   same_shards : v.beginning.settings.shards ≡ b.settings.shards
-  same_shards = ap (λ (c : Beginning). c.settings.shards) same_beginning
+  same_shards = ap (λ (c : Beginning). c.settings.shards) (l.sized.beginnings i v at)
 
   same_super : super_room (sizes_at v.beginning) ≡ super_room (sizes_at b)
-  same_super = ap (λ (c : Beginning). super_room (sizes_at c)) same_beginning
+  same_super = ap (λ (c : Beginning). super_room (sizes_at c)) (l.sized.beginnings i v at)
 
   running_or_closing : (v.phase ≡ Running) ⊎ (v.phase ≡ Closing)
-  running_or_closing = returns.running_or_closing b w h ms i v u g x 0 l at may.held may.kept refl refl refl
-
-  closes_same : closes next.views ≡ closes w.views
-  closes_same = returns.closes_same b w h ms i v u g x 0 l at may.held may.kept refl refl refl
+  running_or_closing = returns.running_or_closing b w h cs i v u g x 0 l at may.held may.kept refl refl refl
 
   closing_room : v.phase ≡ Closing → r ≡ v.closed.rooms
   closing_room c = subst (λ (p : Phase). MayHold (sizes_at b) i p v.closed.rooms r) c may_hold
@@ -128,7 +128,7 @@ module _ (b : Beginning) (w : World) (h : List Entry) (ms : List Released) (i : 
   -- HOW MANY ROOMS ARE DONE
 
   done_before : done_in w.views ≡ done_by v
-  done_before = returns.done_before b w h ms i v u g x 0 l at may.held may.kept refl refl refl
+  done_before = returns.done_before b w h cs i v u g x 0 l at may.held may.kept refl refl refl
 
   done_after : done_in next.views ≡ done_by u
   done_after = let f = total_set done_by w.views i v u at in let d = done_before in omega (arith, f, d)
@@ -153,81 +153,33 @@ module _ (b : Beginning) (w : World) (h : List Entry) (ms : List Released) (i : 
       by (inl t) = le-ltb r (done_in next.views) (omega (arith, t.2)) ∙ sym t.0
       by (inr t) = lt-ltb r (done_in next.views) (omega (arith, t.2)) ∙ sym t.0
 
-  other_done : (q : ℕ) → q ≢ r → q < done_in next.views → q < done_in w.views
-  other_done q n lt = by done_cases
+  -- of the other rooms as many are done
+  other_done : (q : ℕ) → q ≢ r → nat_lt q (done_in next.views) ≡ nat_lt q (done_in w.views)
+  other_done q n = by done_cases
     where
-      by : Cases → q < done_in w.views
-      by (inl t) = absurd (omega (arith, t.2, lt))
-      by (inr t) = omega (arith, t.1, t.2, lt, n)
+      by : Cases → nat_lt q (done_in next.views) ≡ nat_lt q (done_in w.views)
+      by (inl t) = ap (nat_lt q) (t.2 ∙ sym t.1)
+      by (inr t) = ⊎_elim (λ (lt : q < r). lt-ltb q (done_in next.views) (omega (arith, lt, t.2)) ∙ sym (lt-ltb q (done_in w.views) (omega (arith, lt, t.1))))
+          (λ (ge : r ≤ q). le-ltb q (done_in next.views) (omega (arith, ge, n, t.2)) ∙ sym (le-ltb q (done_in w.views) (omega (arith, ge, t.1)))) (cases_lt q r)
 
-  still_done : (q : ℕ) → q < done_in w.views → q < done_in next.views
-  still_done q lt = by done_cases
-    where
-      by : Cases → q < done_in next.views
-      by (inl t) = absurd (omega (arith, t.1, lt))
-      by (inr t) = omega (arith, t.1, t.2, lt)
-
+  -- no fewer are
   test_on : (q : ℕ) → nat_lt q (done_in w.views) ≡ true → nat_lt q (done_in next.views) ≡ true
-  test_on q f = lt-ltb q (done_in next.views) (still_done q (ltb-true q (done_in w.views) f))
-
-  closing_phase : is_closing v.phase ≡ true → v.phase ≡ Closing
-  closing_phase f = by v.phase f
+  test_on q f = by done_cases (ltb-true q (done_in w.views) f)
     where
-      by : (p : Phase) → is_closing p ≡ true → p ≡ Closing
-      by Standing f = absurd (cc)
-      by Running f = absurd (cc)
-      by Closing f = refl
+      by : Cases → q < done_in w.views → nat_lt q (done_in next.views) ≡ true
+      by (inl t) lt = absurd (omega (arith, t.1, lt))
+      by (inr t) lt = lt-ltb q (done_in next.views) (omega (arith, t.1, t.2, lt))
 
   -- ROOMS
 
-  one_less : (a c : Bool) (n : ℕ) → (a ≡ true → c ≡ true) → n + cond a 1 0 ≤ n + cond c 1 0
-  one_less true c n f = let e = f refl in subst (λ (c : Bool). n + 1 ≤ n + cond c 1 0) (sym e) (omega arith)
-  one_less false c n f = omega arith
-
-  bound_more : (a c : Bool) (m p n : ℕ) (d e : Bool) → (d ≡ true → e ≡ true) → cond a m (cond c p (n + cond d 1 0)) ≤ cond a m (cond c p (n + cond e 1 0))
-  bound_more true c m p n d e f = omega arith
-  bound_more false true m p n d e f = omega arith
-  bound_more false false m p n d e f = one_less d e n f
-
-  written_mine : (bank_of x).write_backs + lines_unasked x ≤ opening_write_backs b r + free_bound (sizes_at b) now (length ms) (nat_lt r (done_in next.views)) r x
-  written_mine = subst (λ (p : Beginning × ℕ × ℕ × Bool). (bank_of x).write_backs + lines_unasked x ≤ opening_write_backs p.0 r + free_bound (sizes_at p.0) p.1 p.2 p.3 r x)
-      (λ k. (same_beginning k, runs_now k, returns.closings_right b w h ms i v u g x 0 l at may.held may.kept refl refl refl k, sym mine_done k)) may.write_backs
-
-  safe : IsSafeRoom b h ms (closes next.views) (done_in next.views) 0 r x
-  safe = record {
-    idle = λ _. may.idle;
-    free = λ _ low. subst (λ (p : ℕ × Bool). IsFreeState p.0 p.1 (state_of x)) (λ k. (runs_now k, sym mine_done k)) (may.state (omega (arith, low, same_super)));
-    dead_room = λ d _. absurd (omega (arith, d));
-    done_saved = λ low lt. subst (λ (n : ℕ). IsSavedIn (λ c. c ≤ n) (state_of x)) runs_now (may.closed (closing_phase (sym mine_done ∙ lt-ltb r (done_in next.views) lt)) (omega (arith, low, same_super)));
-    cells = λ low. may.kept.cells (omega (arith, low, same_super));
-    held = returns.held_home b w h ms i v u g x 0 l at may.held may.kept refl refl refl;
-    position = returns.position_home b w h ms i v u g x 0 l at may.held may.kept refl refl refl;
-    written = λ _. written_mine;
-    written_dead = λ d. absurd (omega (arith, d));
-  }
-
-  others_safe : (q : ℕ) (s : Room) → q ≢ r → Home w q s → IsSafeRoom b h ms (closes next.views) (done_in next.views) (lock_of w q) q s
-  others_safe q s n at' = let f = l.rooms.rooms q s at' in record {
-    idle = f.idle;
-    free = λ z low. free_more now (nat_lt q (done_in w.views)) (nat_lt q (done_in next.views)) (state_of s) (test_on q) (f.free z low);
-    dead_room = λ d low. subst (λ (c : Bool). IsDeadState now c (state_of s)) (sym closes_same) (f.dead_room d low);
-    done_saved = λ low lt. f.done_saved low (other_done q n lt);
-    cells = f.cells;
-    held = f.held;
-    position = f.position;
-    written = λ z. let a = f.written z in
-        let d = bound_more (nat_le q (sizes_at b).shards) (nat_lt q (super_room (sizes_at b))) (4 * length (history_of s)) (position_bound now (length ms) (state_of s)) (length ms) (nat_lt q (done_in w.views)) (nat_lt q (done_in next.views)) (test_on q) in omega (arith, a, d);
-    written_dead = f.written_dead;
-  }
-
-  -- LOADS
-
-  stands_after : r ≤ b.settings.shards → StandsFor map_layout (sizes_at b) r (loads x) (contents_behind b h)
-  stands_after low = returns.behind_all b w h ms i v u g x 0 l at may.held may.kept refl refl refl (loads x) (may.stands (omega (arith, low, same_shards)))
+  -- the room goes home free, and done where the thread closes
+  free_home : IsFreeHome b h cs (done_in next.views) r x
+  free_home = free_by_life b w h cs i v l at runs_now r x (is_closing v.phase) (done_in next.views) mine_done (take g.covered g.history) (returns.covered_history b w h cs i v u g x 0 l at may.held may.kept refl refl refl)
+      (history_of x) (returns.all_history b w h cs i v u g x 0 l at may.held may.kept refl refl refl) may.free
 
   -- the queue room goes home empty exactly where the list is empty
-  queue_after : r ≡ b.settings.shards → is_empty_queue x ≡ not (has_items (contents_behind b h).items)
-  queue_after is = queue_empty (sizes_at b) x (contents_behind b h) (subst (λ (r : ℕ). StandsFor map_layout (sizes_at b) r (loads x) (contents_behind b h)) is (stands_after (omega (arith, is))))
+  queue_after : r ≡ b.settings.shards → is_empty_queue x ≡ not (has_items (contents_now (opening_of b) h).items)
+  queue_after is = queue_empty (sizes_at b) x (contents_now (opening_of b) h) (subst (λ (r : ℕ). StandsFor live_layout (sizes_at b) r (loads x) (contents_now (opening_of b) h)) is (free_home.stands (omega (arith, is))))
 
   -- EPOCHS
 
@@ -242,22 +194,22 @@ module _ (b : Beginning) (w : World) (h : List Entry) (ms : List Released) (i : 
   cause_more (inr (inr t)) = inr (inr (t.0, found_more v.phase t.1))
 
   -- a queue that began the epoch with an item and is empty now has lost one since the mark
-  emptied_now : finds_empty v g x ≡ true → is_fed b h ms ≡ true → last_length ms < length h
-  emptied_now f fed = by (cases_lt (last_length ms) (length h))
+  emptied_now : finds_empty v g x ≡ true → is_fed b h cs ≡ true → covered_by cs < length h
+  emptied_now f fed = by (cases_lt (covered_by cs) (length h))
     where
       is : r ≡ b.settings.shards
       is = eqb_is r v.beginning.settings.shards (and_first (r == v.beginning.settings.shards) (is_none g.drawn && is_empty_queue x) f) ∙ same_shards
 
-      none : has_items (contents_behind b h).items ≡ false
-      none = not_true (has_items (contents_behind b h).items) (sym (queue_after is) ∙ and_second (is_none g.drawn) (is_empty_queue x) (and_second (r == v.beginning.settings.shards) (is_none g.drawn && is_empty_queue x) f))
+      none : has_items (contents_now (opening_of b) h).items ≡ false
+      none = not_true (has_items (contents_now (opening_of b) h).items) (sym (queue_after is) ∙ and_second (is_none g.drawn) (is_empty_queue x) (and_second (r == v.beginning.settings.shards) (is_none g.drawn && is_empty_queue x) f))
 
-      by : (last_length ms < length h) ⊎ (length h ≤ last_length ms) → last_length ms < length h
+      by : (covered_by cs < length h) ⊎ (length h ≤ covered_by cs) → covered_by cs < length h
       by (inl lt) = lt
-      by (inr ge) = let le = last_few b w h ms l in let same : last_length ms ≡ length h = omega (arith, ge, le) in
-          let all : saved_part h ms ≡ h = ap (λ (n : ℕ). take n h) same ∙ take-length h in
-          let c : true ≡ false = sym fed ∙ (ap (λ (es : List Entry). has_items (contents_behind b es).items) all ∙ none) in absurd (cc)
+      by (inr ge) = let le = last_few b w h cs l in let same : covered_by cs ≡ length h = omega (arith, ge, le) in
+          let all : covered_part h cs ≡ h = ap (λ (n : ℕ). take n h) same ∙ take-length h in
+          let c : true ≡ false = sym fed ∙ (ap (λ (es : List Entry). has_items (contents_now (opening_of b) es).items) all ∙ none) in absurd (cc)
 
-  in_epoch : IsInEpoch b h ms i u.phase u.ran u.quota u.found_empty
+  in_epoch : IsInEpoch b h cs i u.phase u.ran u.quota u.found_empty
   in_epoch = let f = l.epochs.views i v at in record {
     no_later = f.no_later;
     runs = f.runs;
@@ -268,57 +220,62 @@ module _ (b : Beginning) (w : World) (h : List Entry) (ms : List Released) (i : 
     emptied = λ e found fed. by v.phase found e fed;
   }
     where
-      by : (p : Phase) → found_after p v g x ≡ true → v.ran ≡ now → is_fed b h ms ≡ true → last_length ms < length h
+      by : (p : Phase) → found_after p v g x ≡ true → v.ran ≡ now → is_fed b h cs ≡ true → covered_by cs < length h
       by Standing found e fed = (l.epochs.views i v at).emptied e found fed
       by Running found e fed = ⊎_elim (λ (o : v.found_empty ≡ true). (l.epochs.views i v at).emptied e o fed) (λ (o : finds_empty v g x ≡ true). emptied_now o fed) (or_cases v.found_empty (finds_empty v g x) found)
       by Closing found e fed = (l.epochs.views i v at).emptied e found fed
 
   -- POSITIONS
 
-  wrote_of : v.phase ≡ Running → u.wrote ≡ (v.wrote || (r == thread_room (sizes_at v.beginning) v.thread))
-  wrote_of c = ap (λ (p : Phase). wrote_after p v g) c
-
-  own_wrote : thread_room (sizes_at b) i ≡ r → v.phase ≡ Running → u.wrote ≡ true
-  own_wrote q c = let t = l.sized.threads i v at in
-      wrote_of c ∙ (ap (λ (a : Bool). v.wrote || a) (eq-eqb r (thread_room (sizes_at v.beginning) v.thread) (omega (arith, q, same_shards, t))) ∙ or_right v.wrote)
+  own_wrote : thread_room (sizes_at b) i ≡ r → u.wrote ≡ true
+  own_wrote q = let t = l.sized.threads i v at in ap (λ (a : Bool). v.wrote || a) (eq-eqb r (thread_room (sizes_at v.beginning) v.thread) (omega (arith, q, same_shards, t))) ∙ or_right v.wrote
 
   same_wrote : thread_room (sizes_at b) i ≢ r → u.wrote ≡ v.wrote
-  same_wrote n = ⊎_elim
-      (λ (c : v.phase ≡ Running). let t = l.sized.threads i v at in wrote_of c ∙ (ap (λ (a : Bool). v.wrote || a) (ne_eqb r (thread_room (sizes_at v.beginning) v.thread) (λ e. n (omega (arith, e, same_shards, t)))) ∙ or_false v.wrote))
-      (λ (c : v.phase ≡ Closing). ap (λ (p : Phase). wrote_after p v g) c) running_or_closing
+  same_wrote n = let t = l.sized.threads i v at in ap (λ (a : Bool). v.wrote || a) (ne_eqb r (thread_room (sizes_at v.beginning) v.thread) (λ e. n (omega (arith, e, same_shards, t)))) ∙ or_false v.wrote
 
-  threads_few : (j : ℕ) (c : View) → ViewIs w j c → j < b.settings.threads
-  threads_few j c at' = let f = inside j c at' in let n = l.sized.views in omega (arith, f, n)
-    where
-      inside : (j : ℕ) (c : View) → ViewIs w j c → j < length w.views
-      inside j c at' = at_inside w.views j c at'
+  closing_home : v.phase ≡ Closing → (k : ℕ) → k < b.settings.threads → r ≡ thread_room (sizes_at b) k → IsAtPlace (point_after (opening_of b) h k) (next_command (opening_of b) h k) x
+  closing_home = returns.closing_home b w h cs i v u g x 0 l at may.held may.kept refl refl refl
 
-  closing_home : v.phase ≡ Closing → (k : ℕ) → k < b.settings.threads → r ≡ thread_room (sizes_at b) k → IsAtPlace (place_after (opening_of b) h k) (next_command (opening_of b) h k) x
-  closing_home = returns.closing_home b w h ms i v u g x 0 l at may.held may.kept refl refl refl
-
-  closed_rests : v.phase ≡ Closing → (k : ℕ) → k < b.settings.threads → thread_room (sizes_at b) k ≡ r → AreRunning (state_of x) → ⊥
-  closed_rests c k lt q = not_running (λ c. c ≤ v.ran) (state_of x) (may.closed c (omega (arith, same_super, q, lt)))
+  closed_rests : v.phase ≡ Closing → (k : ℕ) → k < b.settings.threads → thread_room (sizes_at b) k ≡ r → IsRunning (state_of x) → ⊥
+  closed_rests c k lt q = not_running (λ c. c ≤ v.ran) (state_of x) (may.free.safe.saved (ap is_closing c) (omega (arith, same_super, q, lt)))
 
   own_room_of : (j : ℕ) → thread_room (sizes_at b) j ≡ r → v.phase ≡ Running → j ≡ i
-  own_room_of = returns.own_room_of b w h ms i v u g x 0 l at may.held may.kept refl refl refl
+  own_room_of = returns.own_room_of b w h cs i v u g x 0 l at may.held may.kept refl refl refl
 
-  own_position : thread_room (sizes_at b) i ≡ r → KeepsPosition b h ms 0 i v.phase v.ran u.wrote x
+  own_position : thread_room (sizes_at b) i ≡ r → KeepsPosition b h cs 0 i v.phase v.ran u.wrote x
   own_position q = record {
-    standing = λ s. ⊎_elim (λ (c : v.phase ≡ Running). let t = ap stands c in let f : true ≡ false = sym s ∙ t in absurd (cc)) (λ (c : v.phase ≡ Closing). closing_home c i (threads_few i v at) (sym q)) running_or_closing;
+    standing = λ s. ⊎_elim (λ (c : v.phase ≡ Running). let t = ap stands c in let f : true ≡ false = sym s ∙ t in absurd (cc)) (λ (c : v.phase ≡ Closing). closing_home c i (below_threads b w h cs l i v at) (sym q)) running_or_closing;
     written = λ _ c _. let t = l.sized.threads i v at in
-        subst (λ (p : ℕ × Option Command). IsAtPlace p.0 p.1 x) (λ k. (known_place b w h ms i v l at k, known_next b w h ms i v l at k)) (may.own_room c (omega (arith, q, same_shards, t)));
-    unwritten = λ _ c d. let a = own_wrote q c in let f : true ≡ false = sym a ∙ d in absurd (cc);
-    runs = λ _ o. (runs_now, ⊎_elim (λ (c : v.phase ≡ Running). own_wrote q c) (λ (c : v.phase ≡ Closing). absurd (closed_rests c i (threads_few i v at) q o)) running_or_closing);
+        subst (λ (p : RestartPoint × Option Command). IsAtPlace p.0 p.1 x) (λ k. (known_point b w h cs i v l at k, known_next b w h cs i v l at k)) (may.own_room c (omega (arith, q, same_shards, t)));
+    unwritten = λ _ c d. let a = own_wrote q in let f : true ≡ false = sym a ∙ d in absurd (cc);
+    runs = λ _ _. (runs_now, own_wrote q);
   }
 
-  other_position : (j : ℕ) (c : View) → j ≢ i → ViewIs w j c → thread_room (sizes_at b) j ≡ r → KeepsPosition b h ms 0 j c.phase c.ran c.wrote x
+  other_position : (j : ℕ) (c : View) → j ≢ i → ViewIs w j c → thread_room (sizes_at b) j ≡ r → KeepsPosition b h cs 0 j c.phase c.ran c.wrote x
   other_position j c n f q = ⊎_elim (λ (e : v.phase ≡ Running). absurd (n (own_room_of j q e)))
-      (λ (e : v.phase ≡ Closing). let s = others_stand b w h ms l i v at e j c n f in record {
-        standing = λ _. closing_home e j (threads_few j c f) (sym q);
+      (λ (e : v.phase ≡ Closing). let s = others_stand b w h cs l i v at e j c n f in record {
+        standing = λ _. closing_home e j (below_threads b w h cs l j c f) (sym q);
         written = λ _ p. let d : Standing ≡ Running = sym s ∙ p in absurd (cc);
         unwritten = λ _ p. let d : Standing ≡ Running = sym s ∙ p in absurd (cc);
-        runs = λ _ o. absurd (closed_rests e j (threads_few j c f) q o);
+        runs = λ _ o. absurd (closed_rests e j (below_threads b w h cs l j c f) q o);
       }) running_or_closing
+
+  -- its own room is still to be written back; one that is closed is done
+  done_now : v.phase ≡ Closing → nat_lt r (done_in next.views) ≡ false → ⊥
+  done_now c d = let f : true ≡ false = sym (mine_done ∙ ap is_closing c) ∙ d in absurd (cc)
+
+  stored_here : (j : ℕ) → thread_room (sizes_at b) i ≡ r → IsStored now 0 (nat_lt r (done_in next.views)) u.ran u.wrote x
+  stored_here j q z d ran wrote = ⊎_elim (λ (c : v.phase ≡ Running). may.stored c (let t = l.sized.threads i v at in omega (arith, q, same_shards, t))) (λ (c : v.phase ≡ Closing). absurd (done_now c d)) running_or_closing
+
+  stored_else : (j : ℕ) (c : View) → j ≢ i → ViewIs w j c → thread_room (sizes_at b) j ≡ r → IsStored now 0 (nat_lt r (done_in next.views)) c.ran c.wrote x
+  stored_else j c n f q z d ran wrote = ⊎_elim (λ (e : v.phase ≡ Running). absurd (n (own_room_of j q e))) (λ (e : v.phase ≡ Closing). absurd (done_now e d)) running_or_closing
+
+  not_on : (a : Bool) → a ≡ a → (q : ℕ) → nat_lt q (done_in next.views) ≡ false → nat_lt q (done_in w.views) ≡ false
+  not_on a _ q d = by (nat_lt q (done_in w.views)) refl
+    where
+      by : (c : Bool) → nat_lt q (done_in w.views) ≡ c → nat_lt q (done_in w.views) ≡ false
+      by true e = let f : true ≡ false = sym (test_on q e) ∙ d in absurd (cc)
+      by false e = e
 
   -- WHAT IS LEARNT
 
@@ -357,10 +314,10 @@ module _ (b : Beginning) (w : World) (h : List Entry) (ms : List Released) (i : 
         by (inr (inl low)) = let n = before.number in let e = is_room in let m = ap (λ (es : List ThreadEnd). length es) (ends_same (inl low)) in omega (arith, n, e, m, low)
         by (inr (inr high)) = let n = before.number in let e = is_room in let m = ap (λ (es : List ThreadEnd). length es) (ends_same (inr high)) in omega (arith, n, e, m, high)
 
-    fed_now : b.settings.shards < v.closed.rooms + 1 → cond (r == v.beginning.settings.shards) (Some (not (is_empty_queue x))) v.closed.fed ≡ Some (has_items (contents_behind b h).items)
+    fed_now : b.settings.shards < v.closed.rooms + 1 → cond (r == v.beginning.settings.shards) (Some (not (is_empty_queue x))) v.closed.fed ≡ Some (has_items (contents_now (opening_of b) h).items)
     fed_now lt = dite (ℕ_discrete r b.settings.shards)
         (λ e. ap (λ (a : Bool). cond a (Some (not (is_empty_queue x))) v.closed.fed) (eq-eqb r v.beginning.settings.shards (omega (arith, e, same_shards)))
-        ∙ ap (λ (a : Bool). Some a) (ap not (queue_after e) ∙ not_not (has_items (contents_behind b h).items)))
+        ∙ ap (λ (a : Bool). Some a) (ap not (queue_after e) ∙ not_not (has_items (contents_now (opening_of b) h).items)))
         (λ n. ap (λ (a : Bool). cond a (Some (not (is_empty_queue x))) v.closed.fed) (ne_eqb r v.beginning.settings.shards (λ e. n (omega (arith, e, same_shards))))
         ∙ before.fed (let e = is_room in omega (arith, lt, n, e)))
 
@@ -374,7 +331,7 @@ module _ (b : Beginning) (w : World) (h : List Entry) (ms : List Released) (i : 
         (λ (t : (thread_room (sizes_at b) k ≢ r) × Home w (thread_room (sizes_at b) k) s). let q = t.0 in let n = number_now in let o = before.number in let e = is_room in
         let old : k < length v.closed.ends = omega (arith, lt, q, n, o, e) in
         front (is_thread_room (sizes_at v.beginning) r) k old ∙ before.ends k s t.1 old)
-        (returns.this_or_there b w h ms i v u g x 0 l at may.held may.kept refl refl refl (thread_room (sizes_at b) k) s at')
+        (returns.this_or_there b w h cs i v u g x 0 l at may.held may.kept refl refl refl (thread_room (sizes_at b) k) s at')
       where
         front : (a : Bool) (k : ℕ) → k < length v.closed.ends → slice_get (cond a (v.closed.ends ++ end_of x ∷ []) v.closed.ends) k ≡ slice_get v.closed.ends k
         front true k lt = get_front v.closed.ends (end_of x) k lt
@@ -389,56 +346,31 @@ module _ (b : Beginning) (w : World) (h : List Entry) (ms : List Released) (i : 
       entries = before.entries;
     })
 
-  -- THE EPOCH WORD
-
-  super_closes : r ≡ super_room (sizes_at b) → is_closing v.phase ≡ true
-  super_closes is = ⊎_elim (λ (c : v.phase ≡ Running). absurd (by (subst (λ (p : Phase). MayHold (sizes_at b) i p v.closed.rooms r) c may_hold))) (λ (c : v.phase ≡ Closing). ap is_closing c) running_or_closing
-    where
-      by : (r ≤ b.settings.shards) ⊎ (r ≡ thread_room (sizes_at b) i) → ⊥
-      by (inl o) = omega (arith, o, is)
-      by (inr o) = let f = threads_few i v at in omega (arith, o, is, f)
-
-  epoch_room : r ≡ super_room (sizes_at b) → IsEpochRoom now (nat_lt (super_room (sizes_at b)) (done_in next.views)) 0 x
-  epoch_room is = let s : r ≡ super_room (sizes_at v.beginning) = omega (arith, is, same_super) in record {
-    eight = may.kept.eight s;
-    nothing_pending = λ _. may.nothing_pending s;
-    free = λ _. may.epoch s ∙ (ap (λ (n : ℕ). n + 1) runs_now ∙ ap (λ (a : Bool). now + cond a 1 0) (sym (ap (λ (q : ℕ). nat_lt q (done_in next.views)) (sym is) ∙ (mine_done ∙ super_closes is))));
-    dead_room = λ d. absurd (omega (arith, d));
-  }
-
-  super_same : super_room (sizes_at b) ≢ r → nat_lt (super_room (sizes_at b)) (done_in next.views) ≡ nat_lt (super_room (sizes_at b)) (done_in w.views)
-  super_same n = by done_cases
-    where
-      by : Cases → nat_lt (super_room (sizes_at b)) (done_in next.views) ≡ nat_lt (super_room (sizes_at b)) (done_in w.views)
-      by (inl t) = ap (nat_lt (super_room (sizes_at b))) (t.2 ∙ sym t.1)
-      by (inr t) = let f = within in le-ltb (super_room (sizes_at b)) (done_in next.views) (omega (arith, t.2, f, n)) ∙ sym (le-ltb (super_room (sizes_at b)) (done_in w.views) (omega (arith, t.1, f, n)))
-
-  gave_none : (k : GivenBack) → v.given_back ≡ Some k → ⊥
-  gave_none = on_gave_none b w h ms l i v at may.on
-
-  pub unlock_stays : Lawful b next h ms
+  pub unlock_stays : Lawful b next h cs
   unlock_stays = record {
-    sized = returns.sized_returns b w h ms i v u g x 0 l at may.held may.kept refl refl refl;
-    arrival = returns.arrival_returns b w h ms i v u g x 0 l at may.held may.kept refl refl refl;
-    locks = returns.locks_return b w h ms i v u g x 0 l at may.held may.kept refl refl refl (inl refl) (record {
+    sized = returns.sized_returns b w h cs i v u g x 0 l at may.held may.kept refl refl refl;
+    arrival = returns.arrival_returns b w h cs i v u g x 0 l at may.held may.kept refl refl refl;
+    locks = returns.locks_return b w h cs i v u g x 0 l at may.held may.kept refl refl refl (inl refl) (record {
       held = λ k e. absurd (cc);
-      given = λ k e. absurd (gave_none k e);
-      one_room = λ k e. absurd (gave_none k e);
+      given = λ k e. absurd ((on_gave_none b w h cs l i v at may.on) k e);
+      one_room = λ k e. absurd ((on_gave_none b w h cs l i v at may.on) k e);
       may_hold = λ k e. absurd (cc);
-      may_give = λ k e. absurd (gave_none k e);
+      may_give = λ k e. absurd ((on_gave_none b w h cs l i v at may.on) k e);
       off = λ e. let on = may.on in let c : true ≡ false = sym e ∙ on in absurd (cc);
-    }) (λ d. absurd (omega (arith, d))) (λ k e. absurd (gave_none k e));
-    entries = returns.entries_return b w h ms i v u g x 0 l at may.held may.kept refl refl refl refl refl;
-    loads = returns.loads_return b w h ms i v u g x 0 l at may.held may.kept refl refl refl (λ _. stands_after) (λ k e. absurd (gave_none k e));
-    epochs = returns.epochs_return b w h ms i v u g x 0 l at may.held may.kept refl refl refl in_epoch;
-    rooms = returns.rooms_return b w h ms i v u g x 0 l at may.held may.kept refl refl refl safe others_safe;
-    positions = returns.positions_return b w h ms i v u g x 0 l at may.held may.kept refl refl refl
-        (each_set (λ (j : ℕ) (c : View). thread_room (sizes_at b) j ≡ r → KeepsPosition b h ms 0 j c.phase c.ran c.wrote x) w.views i u own_position other_position)
-        (λ s n at'. subst (λ (a : Bool). KeepsPosition b h ms (lock_of w (thread_room (sizes_at b) i)) i v.phase v.ran a s) (sym (same_wrote n)) (l.positions.views i v at s at'));
-    epoch_word = returns.epoch_word_returns b w h ms i v u g x 0 l at may.held may.kept refl refl refl epoch_room super_same;
-    bounds = returns.bounds_return b w h ms i v u g x 0 l at may.held may.kept refl refl refl learnt (l.bounds.views i v at) refl refl refl;
-    taken = returns.taken_return b w h ms i v u g x 0 l at may.held may.kept refl refl refl refl;
+    }) (λ d. absurd (omega (arith, d))) (λ k e. absurd ((on_gave_none b w h cs l i v at may.on) k e));
+    entries = returns.entries_return b w h cs i v u g x 0 l at may.held may.kept refl refl refl refl refl;
+    loads = returns.loads_return b w h cs i v u g x 0 l at may.held may.kept refl refl refl (λ k e. absurd ((on_gave_none b w h cs l i v at may.on) k e));
+    epochs = returns.epochs_return b w h cs i v u g x 0 l at may.held may.kept refl refl refl in_epoch refl;
+    rooms = returns.rooms_return b w h cs i v u g x 0 l at may.held may.kept refl refl refl (λ _. free_home) (λ d. absurd (omega (arith, d))) other_done;
+    positions = returns.positions_return b w h cs i v u g x 0 l at may.held may.kept refl refl refl
+        (each_set (λ (j : ℕ) (c : View). thread_room (sizes_at b) j ≡ r → KeepsPosition b h cs 0 j c.phase c.ran c.wrote x) w.views i u own_position other_position)
+        (λ s n at'. subst (λ (a : Bool). KeepsPosition b h cs (lock_of w (thread_room (sizes_at b) i)) i v.phase v.ran a s) (sym (same_wrote n)) (l.positions.views i v at s at'));
+    stored = returns.stored_return b w h cs i v u g x 0 l at may.held may.kept refl refl refl
+        (each_set (λ (j : ℕ) (c : View). thread_room (sizes_at b) j ≡ r → IsStored now 0 (nat_lt r (done_in next.views)) c.ran c.wrote x) w.views i u (stored_here i) (λ j c n f q. stored_else j c n f q))
+        (λ q d. not_on (nat_lt q (done_in w.views)) refl q d) refl same_wrote;
+    bounds = returns.bounds_return b w h cs i v u g x 0 l at may.held may.kept refl refl refl learnt (l.bounds.views i v at) refl refl refl refl;
+    taken = returns.taken_return b w h cs i v u g x 0 l at may.held may.kept refl refl refl refl;
   }
 
-pub unlock_keeps : UnlockKeeps Lawful
-unlock_keeps b w h ms i v g x l at may = unlock_stays b w h ms i v g x l at may
+pub unlock_keeps : UnlockKeepsLaw Lawful
+unlock_keeps b w h cs i v g x l at may = unlock_stays b w h cs i v g x l at may

@@ -1,10 +1,10 @@
 -- What the views say together, after one of them has changed.
-use Rattle.std.proofs.Common.{◌≡◌, ◌≢◌, ℕ, zero, suc, ◌+◌, ◌≤◌, ◌||◌, Bool, true, false, List, [], ◌∷◌, length, set, sym, refl, ap, ◌∙◌, arith}
+use Rattle.std.proofs.Common.{◌≡◌, ◌≢◌, ℕ, zero, suc, ◌+◌, ◌≤◌, ◌||◌, cond, Bool, true, false, List, [], ◌∷◌, length, set, sym, refl, ap, ◌∙◌, arith}
 use mathlib.Core.Option.{some, some-injective, some-ne-none}
 use lib.ListN.{get_elem?}
 use Rattle.yard_model.specs.declared.view.View.{View}
-use Rattle.yard_model.specs.Knows.{stands}
-use Rattle.yard_model.specs.World.{stands_at, is_any, total_of}
+use Rattle.yard_model.specs.Knows.{stands, is_closing}
+use Rattle.yard_model.specs.World.{stands_at, is_any, total_of, closes, done_in, done_by}
 
 -- a sum over the views, where one has changed
 pub total_set : (f : View → ℕ) (vs : List View) (i : ℕ) (v u : View) → get_elem? vs i ≡ some v → total_of f (set vs i u) + f v ≡ total_of f vs + f u
@@ -25,6 +25,13 @@ pub any_same : (test : View → Bool) (vs : List View) (i : ℕ) (v u : View) �
 any_same test [] i v u at same = refl
 any_same test (x ∷ xs) zero v u at same = ap (λ (b : Bool). b || is_any test xs) (same ∙ ap test (sym (some-injective x v at)))
 any_same test (x ∷ xs) (suc i) v u at same = ap (λ (b : Bool). test x || b) (any_same test xs i v u at same)
+
+-- whether a thread closes, and how many rooms are done, where the changed view closes as it did
+pub closes_set : (vs : List View) (i : ℕ) (v u : View) → get_elem? vs i ≡ some v → is_closing u.phase ≡ is_closing v.phase → closes (set vs i u) ≡ closes vs
+closes_set = any_same (λ (c : View). is_closing c.phase)
+
+pub done_set : (vs : List View) (i : ℕ) (v u : View) → get_elem? vs i ≡ some v → is_closing u.phase ≡ is_closing v.phase → u.closed.rooms ≡ v.closed.rooms → done_in (set vs i u) ≡ done_in vs
+done_set vs i v u at closing rooms = total_same done_by vs i v u at (λ k. cond (closing k) (rooms k) 0)
 
 -- who stands, at each place
 pub stands_there : (vs : List View) (i : ℕ) (v : View) → get_elem? vs i ≡ some v → stands_at vs i ≡ stands v.phase

@@ -2,17 +2,17 @@
 use Rattle.std.specs.Prelude.{ℕ, suc, ◌==◌, Bool, List, [], ◌∷◌, map, if◌then◌else◌}
 use Rattle.seq_object.specs.declared.history.Entry.{Entry}
 use Rattle.seq_object.specs.declared.history.Noted.{Noted}
-use Rattle.seq_object.specs.Sizes.{Sizes}
 use Rattle.seq_object.specs.Object.{room_of}
+use Rattle.seq_object.specs.declared.sizes.Sizes.{Sizes}
 
 -- an entry with its place
-abbrev pub noted : ℕ → Entry → Noted
-noted place e = record { ticket = place; entry = e }
+abbrev pub placed : ℕ → Entry → Noted
+placed place e = record { ticket = place; entry = e }
 
 -- the entries that are picked, each with its place, where the first entry has this place
 abbrev pub picked : (Entry → Bool) → ℕ → List Entry → List Noted
 picked picks place [] = []
-picked picks place (e ∷ es) = if picks e then noted place e ∷ picked picks (suc place) es else picked picks (suc place) es
+picked picks place (e ∷ es) = if picks e then placed place e ∷ picked picks (suc place) es else picked picks (suc place) es
 
 -- whether an entry is a thread's, or for a room
 abbrev pub is_of_thread : ℕ → Entry → Bool

@@ -1,18 +1,22 @@
 -- What a view says of its thread.
-use Rattle.std.specs.Prelude.{◌≡◌, ℕ, ◌+◌, ◌-◌, ◌≤◌, ◌↔◌, ◌⊎◌, Bool, true, false, Option, Some, None, length, slice_get, slice_index}
+use Rattle.std.specs.Prelude.{◌≡◌, ℕ, ◌-◌, ◌≤◌, ◌↔◌, ◌⊎◌, Bool, true, false, Option, Some, None}
 use Rattle.seq_object.specs.declared.command.Command.{Command}
 use Rattle.seq_object.specs.declared.command.Command.TheVariants.{Take}
-use Rattle.seq_object.specs.Sizes.{Sizes}
-use Rattle.life_model.specs.Life.{script_of, opening_place}
-use Rattle.room_model.specs.Rooms.{thread_room}
+use Rattle.seq_object.specs.Sizes.{thread_room}
+use Rattle.seq_object.specs.declared.history.RestartPoint.{RestartPoint}
+use Rattle.life_model.specs.Life.{point_now, next_at}
+use Rattle.room_model.specs.MapRoom.{live_layout}
+use Rattle.room_model.specs.Rooms.{point_in}
 use Rattle.restart_point.specs.declared.thread_end.ThreadEnd.TheVariants.{Waits, Ended}
-use Rattle.yard_model.specs.declared.room.Room.{Room}
+use Rattle.rooms.specs.declared.room.Room.{Room}
 use Rattle.yard_model.specs.declared.view.Phase.{Phase}
 use Rattle.yard_model.specs.declared.view.Phase.TheVariants.{Standing, Running, Closing}
 use Rattle.yard_model.specs.declared.view.TakenPosition.{TakenPosition}
 use Rattle.yard_model.specs.declared.view.View.{View}
-use Rattle.yard_model.specs.Rooms.{loads, end_of}
+use Rattle.yard_model.specs.Entries.{entries_of}
+use Rattle.rooms.specs.Rooms.{loads, end_of}
 use Rattle.yard_model.specs.Beginnings.{opening_of, sizes_at, first_epoch}
+use Rattle.seq_object.specs.declared.sizes.Sizes.{Sizes}
 
 -- whether the thread is at its restart point, where one that closes is too
 abbrev pub stands : Phase → Bool
@@ -30,13 +34,16 @@ is_closing Closing = true
 abbrev pub sizes_known : View → Sizes
 sizes_known v = sizes_at v.beginning
 
--- the place in its script behind all its own entries
+-- its restart point behind all its own entries, and the place in its script there
+abbrev pub point_of : View → RestartPoint
+point_of v = point_now (opening_of v.beginning) v.thread (entries_of v.own)
+
 abbrev pub place_of : View → ℕ
-place_of v = opening_place (opening_of v.beginning) v.thread + length v.own
+place_of v = (point_of v).position
 
 -- its next command, and none where its script is used
 abbrev pub next_of : View → Option Command
-next_of v = slice_get (script_of v.beginning.scripts v.thread) (place_of v)
+next_of v = next_at (opening_of v.beginning) v.thread (entries_of v.own)
 
 -- how many checkpoints were released before the epoch in which it last ran
 abbrev pub closings_known : View → ℕ
@@ -46,15 +53,15 @@ closings_known v = v.ran - first_epoch v.beginning
 abbrev pub HasCause : ℕ → Bool → Option Command → Type 0
 HasCause quota found_empty next = (quota ≡ 0) ⊎ ((next ≡ None) ⊎ ((next ≡ Some Take) × (found_empty ≡ true)))
 
--- a thread's room is at a place where this is the thread's next command: by load it has the place, and its end belongs to it
-pub record IsAtPlace (place : ℕ) (next : Option Command) (x : Room) : Type 0 where
-  pub position : loads x 0 0 ≡ place
+-- a thread's room is at a place where this is the thread's next command: it loads this restart point, and its end belongs to it
+pub record IsAtPlace (place : RestartPoint) (next : Option Command) (x : Room) : Type 0 where
+  pub point : point_in live_layout (loads x) ≡ place
   pub ended : (end_of x ≡ Ended) ↔ (next ≡ None)
   pub waits : end_of x ≡ Waits → next ≡ Some Take
 
 -- so it was as it was taken
-pub record WasAtPlace (place : ℕ) (next : Option Command) (t : TakenPosition) : Type 0 where
-  pub position : slice_index t.loads 0 ≡ place
+pub record WasAtPlace (place : RestartPoint) (next : Option Command) (t : TakenPosition) : Type 0 where
+  pub point : t.point ≡ place
   pub ended : (t.end ≡ Ended) ↔ (next ≡ None)
   pub waits : t.end ≡ Waits → next ≡ Some Take
 

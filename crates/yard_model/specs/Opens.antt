@@ -1,20 +1,25 @@
 -- The world that a life opens with.
-use Rattle.std.specs.Prelude.{◌≡◌, ◌≢◌, ℕ, ◌+◌, ◌<◌, ◌≤◌, ◌↔◌, nat_lt, false, [], length, None}
-use Rattle.life_model.specs.Life.{opening_place, next_command}
-use Rattle.room_model.specs.MapRoom.{map_layout}
-use Rattle.room_model.specs.Rooms.{thread_room, super_room, room_count, StandsFor}
-use Rattle.incll_var.specs.Cells.{IsCellBank}
+use Rattle.std.specs.Prelude.{◌≡◌, ◌≢◌, ℕ, zero, suc, List, ◌∷◌, ◌+◌, ◌<◌, ◌≤◌, ◌↔◌, nat_lt, false, [], length, None}
+use mathlib.Core.Option.{some}
+use lib.ListN.{get_elem?}
+use Rattle.seq_object.specs.History.{point_at}
+use Rattle.life_model.specs.Life.{next_command, contents_now}
+use Rattle.room_model.specs.MapRoom.{live_layout}
+use Rattle.room_model.specs.Rooms.{StandsFor, point_in}
+use Rattle.incll_var.specs.Cells.{IsCellBank, IsSavedIn}
 use Rattle.restart_point.specs.declared.thread_end.ThreadEnd.TheVariants.{Waits, Ended}
-use Rattle.yard_model.specs.declared.room.Room.{Room}
+use Rattle.rooms.specs.declared.room.Room.{Room}
 use Rattle.yard_model.specs.declared.view.Phase.TheVariants.{Standing}
 use Rattle.yard_model.specs.declared.view.Beginning.{Beginning}
 use Rattle.yard_model.specs.declared.view.View.{View}
 use Rattle.yard_model.specs.declared.view.Look.{Look}
-use Rattle.yard_model.specs.Rooms.{bank_of, cells_of, state_of, history_of, end_of, IsIdle, IsRoomOf, loads, epoch_line, IsSavedIn}
-use Rattle.yard_model.specs.Beginnings.{opening_of, sizes_at, first_epoch, are_used_below, has_items, contents_behind, opening_write_backs, IsBeginning}
-use Rattle.yard_model.specs.World.{World, tick_word, clock, arrival, lock_of, ViewIs, Home, Shows}
+use Rattle.rooms.specs.Rooms.{bank_of, cells_of, state_of, history_of, end_of, IsIdle, IsRoomOf, loads}
+use Rattle.yard_model.specs.Beginnings.{opening_of, sizes_at, first_epoch, are_used_below, has_items, write_backs_at, IsBeginning}
+use Rattle.yard_model.specs.World.{YardState, tick_word, clock, arrival, lock_of, ViewIs, Home, Shows}
 use Rattle.yard_model.specs.Lawful.{Lawful}
 use Rattle.yard_model.specs.Views.{nothing_closed}
+use Rattle.room_model.specs.EpochLine.{epoch_line}
+use Rattle.seq_object.specs.Sizes.{thread_room, super_room, room_count}
 
 -- no word was looked at
 abbrev pub no_look : Look
@@ -33,7 +38,8 @@ opening_view b i = record {
   grip = None;
   given_back = None;
   own = [];
-  marks = 0;
+  checkpoints = 0;
+  last_checkpoint = 0;
   ticks = 0;
   looks = 0;
   look = no_look;
@@ -43,30 +49,39 @@ opening_view b i = record {
   closed = nothing_closed;
 }
 
+-- the views of so many threads, the first of them thread i's
+abbrev pub opening_views_from : Beginning → ℕ → ℕ → List View
+opening_views_from b i zero = []
+opening_views_from b i (suc n) = opening_view b i ∷ opening_views_from b (suc i) n
+
+-- the views of all threads
+abbrev pub opening_views : Beginning → List View
+opening_views b = opening_views_from b 0 b.settings.threads
+
 -- a room as a life opens with it
 pub record IsOpeningRoom (b : Beginning) (r : ℕ) (x : Room) : Type 0 where
   pub kind : IsRoomOf b.settings r x
   pub idle : IsIdle x
   pub history : history_of x ≡ []
-  pub write_backs : (bank_of x).write_backs ≡ opening_write_backs b r
+  pub write_backs : (bank_of x).write_backs ≡ write_backs_at b r
   -- cells are saved, in the epoch before
   pub cells : r < super_room (sizes_at b) → IsCellBank (cells_of x)
   pub saved : r < super_room (sizes_at b) → IsSavedIn (λ c. c + 1 ≡ first_epoch b) (state_of x)
   -- rooms of commands stand by their loads for what the object holds
-  pub stands : r ≤ b.settings.shards → StandsFor map_layout (sizes_at b) r (loads x) (contents_behind b [])
+  pub stands : r ≤ b.settings.shards → StandsFor live_layout (sizes_at b) r (loads x) (contents_now (opening_of b) [])
   -- the super room has the epoch, and nothing pending
-  pub eight : r ≡ super_room (sizes_at b) → length (epoch_line x).base ≡ 8
-  pub nothing_pending : r ≡ super_room (sizes_at b) → (epoch_line x).pending ≡ []
+  pub eight : r ≡ super_room (sizes_at b) → length (epoch_line (bank_of x)).base ≡ 8
+  pub nothing_pending : r ≡ super_room (sizes_at b) → (epoch_line (bank_of x)).pending ≡ []
   pub epoch : r ≡ super_room (sizes_at b) → loads x 0 0 ≡ first_epoch b
 
 -- a thread's room as a life opens with it: at the thread's place, with the end that belongs to it
 pub record IsOpeningPosition (b : Beginning) (i : ℕ) (x : Room) : Type 0 where
-  pub position : loads x 0 0 ≡ opening_place (opening_of b) i
+  pub point : point_in live_layout (loads x) ≡ point_at b.points i
   pub ended : (end_of x ≡ Ended) ↔ (next_command (opening_of b) [] i ≡ None)
   pub no_wait : end_of x ≢ Waits
 
 -- each word, view and room is as a life opens with it
-pub record IsOpeningWorld (b : Beginning) (w : World) : Type 0 where
+pub record IsOpeningWorld (b : Beginning) (w : YardState) : Type 0 where
   pub beginning : IsBeginning b
   pub tick : tick_word w ≡ 0
   pub clock : clock w ≡ 0
@@ -81,5 +96,10 @@ pub record IsOpeningWorld (b : Beginning) (w : World) : Type 0 where
   pub positions : (i : ℕ) (x : Room) → i < b.settings.threads → Home w (thread_room (sizes_at b) i) x → IsOpeningPosition b i x
 
 -- a life opens with a lawful world
-abbrev pub OpensLawful : Type 0
-OpensLawful = (b : Beginning) (w : World) → IsOpeningWorld b w → Lawful b w [] []
+abbrev pub OpensLawfulLaw : Type 0
+OpensLawfulLaw = (b : Beginning) (w : YardState) → IsOpeningWorld b w → Lawful b w [] []
+
+-- views are those that a life opens with exactly where there is one for each thread, and each is its thread's
+abbrev pub ViewsOpenLaw : Type 0
+ViewsOpenLaw = (b : Beginning) (views : List View)
+    → (views ≡ opening_views b) ↔ ((length views ≡ b.settings.threads) × ((i : ℕ) (v : View) → get_elem? views i ≡ some v → v ≡ opening_view b i))

@@ -1,20 +1,24 @@
 -- The view after each kind of step, as a function of the view before it. Each is one change of fields, so that a fact on the other fields
 -- stays as it is.
-use Rattle.std.specs.Prelude.{ℕ, ◌+◌, ◌-◌, ◌^◌, ◌==◌, ◌&&◌, ◌||◌, nat_lt, nat_le, not, min, Bool, true, false, is_none, [], ◌∷◌, ◌++◌, Some, None, if◌then◌else◌}
+use Rattle.std.specs.Prelude.{ℕ, ◌+◌, ◌-◌, ◌==◌, ◌&&◌, ◌||◌, nat_lt, nat_le, not, Bool, true, false, is_none, [], ◌∷◌, ◌++◌, Some, None, if◌then◌else◌}
 use Rattle.seq_object.specs.declared.history.Entry.{Entry}
 use Rattle.seq_object.specs.declared.history.Noted.{Noted}
-use Rattle.seq_object.specs.Sizes.{Sizes}
-use Rattle.room_model.specs.Rooms.{thread_room, super_room}
-use Rattle.yard_model.specs.declared.room.Room.{Room}
+use Rattle.seq_object.specs.Sizes.{thread_room, super_room}
+use Rattle.line_memory.specs.Line.{counted}
+use Rattle.room_model.specs.MapRoom.{live_layout}
+use Rattle.room_model.specs.Rooms.{point_in}
+use Rattle.rooms.specs.declared.room.Room.{Room}
 use Rattle.yard_model.specs.declared.view.Phase.{Phase}
 use Rattle.yard_model.specs.declared.view.Phase.TheVariants.{Standing, Running, Closing}
 use Rattle.yard_model.specs.declared.view.View.{View}
 use Rattle.yard_model.specs.declared.view.Grip.{Grip}
 use Rattle.yard_model.specs.declared.view.TakenPosition.{TakenPosition}
 use Rattle.yard_model.specs.declared.view.Closed.{Closed}
-use Rattle.yard_model.specs.Entries.{noted}
-use Rattle.yard_model.specs.Rooms.{history_of, end_of, loads, held_in, first_triple, is_empty_queue}
+use Rattle.yard_model.specs.Entries.{placed}
+use Rattle.rooms.specs.Rooms.{history_of, end_of, loads, is_empty_queue, bank_of}
 use Rattle.yard_model.specs.Knows.{sizes_known}
+use Rattle.room_model.specs.Banks.{memory_words}
+use Rattle.seq_object.specs.declared.sizes.Sizes.{Sizes}
 
 -- LOCK. The room is in hand, as it was taken.
 
@@ -24,29 +28,27 @@ is_thread_room z r = nat_lt z.shards r && nat_lt r (super_room z)
 
 -- a thread's room as it is taken in an epoch
 abbrev pub taken_position : ℕ → Room → TakenPosition
-taken_position epoch x = record { loads = first_triple (loads x); held = first_triple (held_in epoch x); end = end_of x }
+taken_position epoch x = record { point = point_in live_layout (loads x); in_memory = point_in live_layout (memory_words epoch (bank_of x)); end = end_of x }
 
--- a room as it is taken, of whose history the last mark saves so many entries
+-- a room as it is taken, of whose history the last mark covers so many entries
 abbrev pub grip_on : View → ℕ → Room → ℕ → Grip
-grip_on v r x saved = record {
+grip_on v r x covered = record {
   room = r;
   history = history_of x;
-  saved = saved;
+  covered = covered;
   position = if is_thread_room (sizes_known v) r then Some (taken_position v.ran x) else None;
   drawn = None;
 }
 
 abbrev pub gripped : View → ℕ → Room → ℕ → View
-gripped v r x saved = record v { grip = Some (grip_on v r x saved) }
+gripped v r x covered = record v { grip = Some (grip_on v r x covered) }
 
--- UNLOCK. Nothing is held. Where the thread runs, its own room is written now, or the queue was found empty. Where it closes, one more
--- room is done.
+-- UNLOCK. Nothing is held. The thread's own room is written now. Where the thread runs the queue may have been found empty; where it
+-- closes one more room is done.
 
--- whether its own room goes home
-abbrev pub wrote_after : Phase → View → Grip → Bool
-wrote_after Standing v g = v.wrote
-wrote_after Running v g = v.wrote || (g.room == thread_room (sizes_known v) v.thread)
-wrote_after Closing v g = v.wrote
+-- whether its own room was written, or goes home
+abbrev pub wrote_after : View → Grip → Bool
+wrote_after v g = v.wrote || (g.room == thread_room (sizes_known v) v.thread)
 
 -- whether the queue room goes home empty, with no entry drawn
 abbrev pub finds_empty : View → Grip → Room → Bool
@@ -72,7 +74,7 @@ closed_after Running v g x = v.closed
 closed_after Closing v g x = learnt_from v g x
 
 abbrev pub freed : View → Grip → Room → View
-freed v g x = record v { grip = None; wrote = wrote_after v.phase v g; found_empty = found_after v.phase v g x; closed = closed_after v.phase v g x }
+freed v g x = record v { grip = None; wrote = wrote_after v g; found_empty = found_after v.phase v g x; closed = closed_after v.phase v g x }
 
 -- RETREAT. Nothing is held, and the room was given back in mid-work.
 abbrev pub retreated : View → Grip → View
@@ -91,7 +93,7 @@ abbrev pub with_drawn : Grip → Noted → Grip
 with_drawn g n = record g { drawn = Some n }
 
 abbrev pub drew : View → Grip → ℕ → Entry → View
-drew v g place e = record v { grip = Some (with_drawn g (noted place e)); own = v.own ++ noted place e ∷ []; quota = v.quota - 1 }
+drew v g place e = record v { grip = Some (with_drawn g (placed place e)); own = v.own ++ placed place e ∷ []; quota = v.quota - 1 }
 
 -- CLAIM. The thread closes, with nothing done and nothing learnt.
 abbrev pub nothing_closed : Closed
@@ -104,19 +106,15 @@ claimed v = record v { phase = Closing; closed = nothing_closed }
 abbrev pub with_entries : Closed → ℕ → Closed
 with_entries c n = record c { entries = Some n }
 
-abbrev pub noted_in : View → ℕ → View
-noted_in v n = record v { closed = with_entries v.closed n }
+abbrev pub entries_noted : View → ℕ → View
+entries_noted v n = record v { closed = with_entries v.closed n }
 
--- RELEASE. The thread stands, with one mark more.
+-- RELEASE. The thread stands, with one checkpoint more, which began the next epoch.
 abbrev pub released : View → View
-released v = record v { phase = Standing; marks = v.marks + 1; closed = nothing_closed }
-
--- LOOK. One more, of this word with this value found in it. The count stands still at its type's end.
-abbrev pub rises : ℕ → ℕ
-rises n = min (n + 1) (2 ^ 64 - 1)
+released v = record v { phase = Standing; checkpoints = v.checkpoints + 1; last_checkpoint = v.ran + 1; closed = nothing_closed }
 
 abbrev pub looked : View → ℕ → ℕ → View
-looked v word found = record v { looks = rises v.looks; look = record { word = word; found = found } }
+looked v word found = record v { looks = counted v.looks; look = record { word = word; found = found } }
 
 -- POWER. The tick word was found at this value: the power is off where that is at least the limit.
 abbrev pub saw_power : View → ℕ → View

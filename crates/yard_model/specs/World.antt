@@ -4,25 +4,25 @@ use Rattle.std.specs.Prelude.{◌≡◌, ℕ, zero, suc, ◌+◌, ◌-◌, ◌/�
 use mathlib.Core.Option.{some}
 use lib.ListN.{get_elem?}
 use Rattle.restart_point.specs.ArrivalWord.{is_set, HasNoOtherBits}
-use Rattle.yard_model.specs.declared.room.Room.{Room}
+use Rattle.rooms.specs.declared.room.Room.{Room}
 use Rattle.yard_model.specs.declared.view.View.{View}
 use Rattle.yard_model.specs.Knows.{stands, is_closing}
 
-pub record World : Type 0 where
+pub record YardState : Type 0 where
   pub words : List ℕ
   pub rooms : List (Option Room)  -- none where the room is out
   pub views : List View  -- in the order of threads
 
-abbrev pub tick_word : World → ℕ
+abbrev pub tick_word : YardState → ℕ
 tick_word w = slice_index w.words 0
 
-abbrev pub clock : World → ℕ
+abbrev pub clock : YardState → ℕ
 clock w = slice_index w.words 1
 
-abbrev pub arrival : World → ℕ
+abbrev pub arrival : YardState → ℕ
 arrival w = slice_index w.words 2
 
-abbrev pub lock_of : World → ℕ → ℕ
+abbrev pub lock_of : YardState → ℕ → ℕ
 lock_of w r = slice_index w.words (3 + r)
 
 -- the lock word of a room that was given back in mid-work
@@ -30,11 +30,11 @@ abbrev pub dead : ℕ
 dead = 2 ^ 64 - 1
 
 -- the view of a thread is this one
-abbrev pub ViewIs : World → ℕ → View → Type 0
+abbrev pub ViewIs : YardState → ℕ → View → Type 0
 ViewIs w i v = get_elem? w.views i ≡ some v
 
 -- the room of a number is at home, and is this one
-abbrev pub Home : World → ℕ → Room → Type 0
+abbrev pub Home : YardState → ℕ → Room → Type 0
 Home w r x = get_elem? w.rooms r ≡ some (Some x)
 
 -- What the views say together.
@@ -68,6 +68,10 @@ done_in vs = total_of done_by vs
 -- the ticks of all threads
 abbrev pub all_ticks : List View → ℕ
 all_ticks vs = total_of (λ (v : View). v.ticks) vs
+
+-- the checkpoints that the threads released
+abbrev pub all_checkpoints : List View → ℕ
+all_checkpoints vs = total_of (λ (v : View). v.checkpoints) vs
 
 -- how many threads saw the power on since their last tick
 abbrev pub seen_on : View → ℕ

@@ -1,8 +1,9 @@
-//! What a thread knows of the yard. No value of these types is made: contracts speak of them.
+//! What a thread knows of the yard. But for what a life begins with and for checkpoints no value of these types is made: contracts speak
+//! of them.
 
-use life_model::Life;
+use life_model::{Life, Mark};
 use restart_point::ThreadEnd;
-use seq_object::{Command, Noted, Settings};
+use seq_object::{Command, Noted, RestartPoint, Settings};
 use std::collections::LinkedList;
 
 /// Where a thread is: at its restart point, at its commands, or closing an epoch, in which all other threads stand.
@@ -13,7 +14,7 @@ pub enum Phase {
     Closing,
 }
 
-/// What a life begins with. It never changes, and each thread knows it.
+/// What a life begins with. It never changes, and each thread knows it. It is read off the world that the life opens with.
 #[derive(Drop)]
 pub struct Beginning {
     pub settings: Settings,
@@ -26,8 +27,8 @@ pub struct Beginning {
     pub pairs: LinkedList<(u64, u64)>,
     /// The items of the queue, from front to back.
     pub items: LinkedList<u64>,
-    /// How many commands of each thread were done before this life.
-    pub positions: LinkedList<u64>,
+    /// Where each thread goes on.
+    pub points: LinkedList<RestartPoint>,
     /// The power is off where the tick word is at least this.
     pub limit: u64,
     /// The number of write-backs of each room.
@@ -37,10 +38,10 @@ pub struct Beginning {
 /// What is known of a thread's room as it was taken.
 #[derive(Drop)]
 pub struct TakenPosition {
-    /// Words 0 to 2 of its line, by loads.
-    pub loads: LinkedList<u64>,
-    /// The triple of its line at the epoch, as memory holds it.
-    pub held: LinkedList<u64>,
+    /// The restart point that it loads.
+    pub point: RestartPoint,
+    /// The restart point that memory has of it at the epoch.
+    pub in_memory: RestartPoint,
     pub end: ThreadEnd,
 }
 
@@ -51,8 +52,8 @@ pub struct Grip {
     pub room: u32,
     /// The entries of its commands that were done.
     pub history: LinkedList<Noted>,
-    /// How many of these entries the last mark saves.
-    pub saved: u64,
+    /// How many of these entries the last checkpoint covers.
+    pub covered: u64,
     /// Where it is a thread's room.
     pub position: Option<TakenPosition>,
     /// The entry that was drawn since.
@@ -111,7 +112,9 @@ pub struct View {
     /// Its own entries with their places in the history.
     pub own: LinkedList<Noted>,
     /// How many checkpoints it released.
-    pub marks: u32,
+    pub checkpoints: u32,
+    /// The epoch that its last checkpoint began, 0 where it released none.
+    pub last_checkpoint: u32,
     /// How many events it told the tick word of.
     pub ticks: u64,
     /// How often it looked. The count stands still at its type's end.
@@ -128,10 +131,17 @@ pub struct View {
     pub closed: Closed,
 }
 
-/// A checkpoint that was released: by whom, how many entries it saves, and whether the life ended with it.
+/// A checkpoint that was released: how many entries it covers, and whether the life ended with it.
 #[derive(Clone, Copy, Debug, PartialEq, Eq)]
-pub struct Released {
-    pub thread: u32,
+pub struct Checkpoint {
     pub length: u64,
+    pub over: bool,
+}
+
+/// A checkpoint that a thread itself released, with the epoch that it began.
+#[derive(Clone, Copy, Debug, PartialEq, Eq)]
+pub struct OwnMark {
+    pub mark: Mark,
+    /// Whether the life ended with it.
     pub over: bool,
 }

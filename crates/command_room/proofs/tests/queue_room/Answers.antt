@@ -1,16 +1,18 @@
-use Rattle.std.proofs.Common.{ap, ◌∙◌}
+use Rattle.std.proofs.Common.{arith, ap, ◌∙◌, sym, subst}
 use Rattle.line_memory.specs.Line.{bank_load}
-use Rattle.incll_var.specs.Cells.{CellBankState}
-use Rattle.command_room.specs.declared.room.CommandRoom.{CommandRoom}
-use Rattle.command_room.proofs.Firsts.{first_may_be}
+use Rattle.incll_var.specs.Cells.{IsSaved}
+use Rattle.command_room.specs.Room.{CommandRoomState}
+use Rattle.command_room.proofs.FormattedRooms.{formatted_may}
 use Rattle.command_room.proofs.tests.queue_room.Goals as goal
 
 pub of-room-requires : goal.of-room-requires
-of-room-requires g c = first_may_be c.clean-cells.result c.in_ok-bank.bank c.clean-cells.ensures.is c.clean-cells.ensures.cells c.in_ok-bank.ensures.count c.in_ok-bank.ensures.loads
+of-room-requires g c =
+    formatted_may (record { threads = 1; shards = 1; lines = 16; every = 1 }) 1 c.formatted_cells-cells.result
+    (record { some_threads = omega arith; few_threads = omega arith; some_shards = omega arith; few_shards = omega arith; some_lines = omega arith; few_lines = omega arith })
+    (omega arith) c.formatted_cells-cells.ensures.cells c.formatted_cells-cells.ensures.lines (subst IsSaved (sym c.formatted_cells-cells.ensures.state) tt) c.formatted_cells-cells.ensures.loads
 
 pub returns-clause-loads : goal.returns-clause-loads
 returns-clause-loads g c = λ line w lt.
-    ap (λ (k : CommandRoom). bank_load k.cells.bank line w) c.enter.ensures.is
-    ∙ ap (λ (k : CommandRoom). bank_load k.cells.bank line w) c.of-room.ensures.is
-    ∙ ap (λ (k : CellBankState). bank_load k.bank line w) c.clean-cells.ensures.is
-    ∙ c.in_ok-bank.ensures.loads line w lt
+    ap (λ (k : CommandRoomState). bank_load k.cells.bank line w) c.enter.ensures.is
+    ∙ ap (λ (k : CommandRoomState). bank_load k.cells.bank line w) c.of-room.ensures.is
+    ∙ c.formatted_cells-cells.ensures.loads line w lt

@@ -1,4 +1,4 @@
-use Rattle.incll_var.proofs.Behind.{stored_loads, stored_behind, write_behind}
+use Rattle.incll_var.proofs.Behind.{stored_loads, stored_behind}
 use Rattle.incll_var.proofs.laws.plan_laws.Goals as goal
 
 pub returns-clause-loads : goal.returns-clause-loads
@@ -6,6 +6,3 @@ returns-clause-loads c = stored_loads
 
 pub returns-clause-stored : goal.returns-clause-stored
 returns-clause-stored c = stored_behind
-
-pub returns-clause-written : goal.returns-clause-written
-returns-clause-written c = write_behind

@@ -1,4 +1,4 @@
-use Rattle.life_laws.proofs.Words.{room_stands}
+use Rattle.life_laws.proofs.Parts.{room_stands}
 use Rattle.life_laws.proofs.images.room_stands_law.Goals as goal
 
 pub returns : goal.returns

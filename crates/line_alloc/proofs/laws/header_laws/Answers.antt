@@ -1,4 +1,4 @@
-use Rattle.line_alloc.proofs.Taken.{map_has_header, queue_has_header, none_is_full}
+use Rattle.line_alloc.proofs.Taken.{map_has_header, queue_has_header}
 use Rattle.line_alloc.proofs.laws.header_laws.Goals as goal
 
 pub returns-clause-map : goal.returns-clause-map
@@ -6,6 +6,3 @@ returns-clause-map c = map_has_header
 
 pub returns-clause-queue : goal.returns-clause-queue
 returns-clause-queue c = queue_has_header
-
-pub returns-clause-none : goal.returns-clause-none
-returns-clause-none c = none_is_full

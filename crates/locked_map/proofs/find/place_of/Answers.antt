@@ -1,28 +1,30 @@
-use Rattle.std.proofs.Common.{◌≡◌, ℕ, ◌+◌, ◌^◌, ◌<◌, ◌≤◌, arith, sym, ap, ◌∙◌, subst, length}
-use Rattle.line_memory.specs.Line.{BankState, bank_load}
+use Rattle.std.proofs.Common.{◌≡◌, ℕ, ◌^◌, ◌<◌, ◌≤◌, arith, sym, ap, ◌∙◌, subst, length}
+use Rattle.line_memory.specs.Line.{bank_load}
 use Rattle.seq_object.specs.Sizes.{sizes_of}
-use Rattle.room_model.specs.MapRoom.{bucket_of}
-use Rattle.room_laws.specs.Walks.{IsWalk}
+use Rattle.room_model.specs.MapRoom.{layout_of, head, bucket_of}
+use Rattle.room_model.specs.Walks.{IsWalk}
 use Rattle.locked_map.proofs.Finding.{first_small}
-use Rattle.locked_map.proofs.Places.{walk_from, place_law}
+use Rattle.locked_map.proofs.Places.{laid, walk_from, bounds, first_loaded, place_law}
 use Rattle.locked_map.proofs.find.place_of.Goals as goal
 
--- one more, counted from the front
-one_more : (b : ℕ) → 1 + b ≡ b + 1
-one_more b = omega arith
+pub load-first-requires-clause-line : goal.load-first-requires-clause-line
+load-first-requires-clause-line c =
+    let layout = layout_of c.args.heads in
+    let fits : layout.head_line (bucket_of (sizes_of c.args.settings) c.args.key) < (sizes_of c.args.settings).lines = (bounds layout (sizes_of c.args.settings) c.args.cells.now c.args.key (laid c.args.heads) c.requires).head in
+    let is : c.head_line-head_line.result ≡ layout.head_line (bucket_of (sizes_of c.args.settings) c.args.key) = c.head_line-head_line.ensures.is ∙ ap layout.head_line c.bucket_of-bucket.ensures.bucket in
+    let same = c.requires.lines in
+    omega (arith, fits, is, same)
 
--- the line of the head, from the bucket
-head_line : (b bucket : ℕ) → b ≡ bucket → 1 + b ≡ bucket + 1
-head_line b bucket is = ap (λ (k : ℕ). 1 + k) is ∙ one_more bucket
-
--- the first node, from the head
-first : (bank : BankState) (b bucket line : ℕ) → b ≡ bucket → line ≡ bank_load bank (1 + b) 0 → line ≡ bank_load bank (bucket + 1) 0
-first bank b bucket line is loaded = loaded ∙ ap (λ (k : ℕ). bank_load bank k 0) (head_line b bucket is)
+-- the first node, as it is loaded
+first : (c : goal.After-load-first) → c.load-first.result ≡ head (layout_of c.args.heads) (bank_load c.args.cells.now.bank) (bucket_of (sizes_of c.args.settings) c.args.key)
+first c =
+    first_loaded (layout_of c.args.heads) (sizes_of c.args.settings) (bank_load c.args.cells.now.bank) c.args.key c.bucket_of-bucket.result c.head_line-head_line.result c.head_word-head_word.result c.load-first.result
+    c.bucket_of-bucket.ensures.bucket c.head_line-head_line.ensures.is c.head_word-head_word.ensures.is c.load-first.ensures
 
 walks : (c : goal.After-load-first) → IsWalk (bank_load c.args.cells.now.bank) (length c.args.cells.now.bank.lines) (length c.args.cells.now.bank.lines) c.load-first.result
 walks c =
     let n = length c.args.cells.now.bank.lines in
-    subst (λ (line : ℕ). IsWalk (bank_load c.args.cells.now.bank) n n line) (sym (first c.args.cells.now.bank c.bucket_of-head_line.result (bucket_of (sizes_of c.args.settings) c.args.key) c.load-first.result c.bucket_of-head_line.ensures.bucket c.load-first.ensures)) (walk_from (sizes_of c.args.settings) c.args.cells.now c.args.key c.requires)
+    subst (λ (line : ℕ). IsWalk (bank_load c.args.cells.now.bank) n n line) (sym (first c)) (walk_from (layout_of c.args.heads) (sizes_of c.args.settings) c.args.cells.now c.args.key (laid c.args.heads) c.requires)
 
 pub overflow_cast-first : goal.overflow_cast-first
 overflow_cast-first c =
@@ -38,7 +40,10 @@ walk-node-requires c = walks c
 
 pub returns : goal.returns
 returns c =
-    let bucket = bucket_of (sizes_of c.args.settings) c.args.key in
-    place_law (sizes_of c.args.settings) c.args.cells.now c.args.key (record { head_line = 1 + c.bucket_of-head_line.result; first = c.load-first.result; node = c.walk-node.result.0; before = c.walk-node.result.1 }) c.requires
-    (head_line c.bucket_of-head_line.result bucket c.bucket_of-head_line.ensures.bucket)
-    (first c.args.cells.now.bank c.bucket_of-head_line.result bucket c.load-first.result c.bucket_of-head_line.ensures.bucket c.load-first.ensures) c.walk-node.ensures.node c.walk-node.ensures.before
+    let layout = layout_of c.args.heads in
+    place_law layout (sizes_of c.args.settings) c.args.cells.now c.args.key (record { head_line = c.head_line-head_line.result; head_word = c.head_word-head_word.result; first = c.load-first.result; node = c.walk-node.result.0; before = c.walk-node.result.1 })
+    (laid c.args.heads) c.requires (subst (λ (b : ℕ). b < 8) c.bucket_of-bucket.ensures.bucket c.bucket_of-bucket.ensures.few)
+    (c.head_line-head_line.ensures.is ∙ ap layout.head_line c.bucket_of-bucket.ensures.bucket) (c.head_word-head_word.ensures.is ∙ ap layout.head_word c.bucket_of-bucket.ensures.bucket)
+    (first_loaded layout (sizes_of c.args.settings) (bank_load c.args.cells.now.bank) c.args.key c.bucket_of-bucket.result c.head_line-head_line.result c.head_word-head_word.result c.load-first.result
+    c.bucket_of-bucket.ensures.bucket c.head_line-head_line.ensures.is c.head_word-head_word.ensures.is c.load-first.ensures)
+    c.walk-node.ensures.node c.walk-node.ensures.before

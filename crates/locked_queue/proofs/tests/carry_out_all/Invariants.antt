@@ -1,5 +1,5 @@
 use Rattle.std.proofs.Common.{◌≡◌, None}
-use Rattle.command_room.specs.Room.{held_of}
+use Rattle.command_room.specs.Room.{memory_words_of}
 use Rattle.locked_queue.proofs.tests.carry_out_all.Given as goal
 
 abbrev pub invariant-loop-command : goal.invariant-loop-command
@@ -8,5 +8,5 @@ invariant-loop-command g l = record {
   number : l.room.room ≡ l.initial.room.room;
   state : l.room.cells.state ≡ l.initial.room.cells.state;
   idle : l.room.under_way ≡ None;
-  held : held_of l.room ≡ held_of l.initial.room;
+  held : memory_words_of l.room ≡ memory_words_of l.initial.room;
 }

@@ -1,13 +1,13 @@
 use Rattle.std.proofs.Common.{ap, ◌∙◌}
-use Rattle.command_room.specs.declared.room.CommandRoom.{CommandRoom}
 use Rattle.locked_queue.proofs.TestRooms.{played-state}
+use Rattle.command_room.specs.Room.{CommandRoomState}
 use Rattle.locked_queue.proofs.tests.finish.Goals as goal
 
 pub loop-room-preserved : goal.loop-room-preserved
 loop-room-preserved c = record {
-  settings = ap (λ (s : CommandRoom). s.settings) c.step.ensures.is ∙ c.loop-room.invariant.settings;
-  number = ap (λ (s : CommandRoom). s.room) c.step.ensures.is ∙ c.loop-room.invariant.number;
-  state = ap (λ (s : CommandRoom). s.cells.state) c.step.ensures.is ∙ played-state c.loop-room.room.cells c.loop-room.room.plan.stores ∙ c.loop-room.invariant.state;
-  under = ap (λ (s : CommandRoom). s.under_way) c.step.ensures.is ∙ c.loop-room.invariant.under;
-  held = c.step.ensures.held ∙ c.loop-room.invariant.held;
+  settings = ap (λ (s : CommandRoomState). s.settings) c.step.ensures.is ∙ c.loop-room.invariant.settings;
+  number = ap (λ (s : CommandRoomState). s.room) c.step.ensures.is ∙ c.loop-room.invariant.number;
+  state = ap (λ (s : CommandRoomState). s.cells.state) c.step.ensures.is ∙ played-state c.loop-room.room.cells c.loop-room.room.plan.stores ∙ c.loop-room.invariant.state;
+  under = ap (λ (s : CommandRoomState). s.under_way) c.step.ensures.is ∙ c.loop-room.invariant.under;
+  held = c.step.ensures.in_memory ∙ c.loop-room.invariant.held;
 }

@@ -1,5 +1,5 @@
 use Rattle.std.proofs.Common.{◌≡◌, length}
-use Rattle.command_room.specs.Room.{held_of}
+use Rattle.command_room.specs.Room.{memory_words_of}
 use Rattle.locked_queue.proofs.tests.finish.Given as goal
 
 abbrev pub invariant-loop-room : goal.invariant-loop-room
@@ -8,7 +8,7 @@ invariant-loop-room l = record {
   number : l.room.room ≡ l.initial.room.room;
   state : l.room.cells.state ≡ l.initial.room.cells.state;
   under : l.room.under_way ≡ l.initial.room.under_way;
-  held : held_of l.room ≡ held_of l.initial.room;
+  held : memory_words_of l.room ≡ memory_words_of l.initial.room;
 }
 
 abbrev pub decreases-loop-room : goal.decreases-loop-room

@@ -1,5 +1,11 @@
+use Rattle.std.proofs.Common.{◌≡◌, rules}
+use Rattle.incll_var.specs.declared.state.CellState.TheVariants.{Saved}
+use Rattle.incll_var.specs.Cells.{IsCellBank, cells_in}
 use Rattle.locked_queue.proofs.TestRooms.{first_may_be}
 use Rattle.locked_queue.proofs.tests.queue_room.Goals as goal
 
 pub of-room-requires : goal.of-room-requires
-of-room-requires g c = first_may_be c.clean-cells.result c.in_ok-bank.bank c.clean-cells.ensures.is c.clean-cells.ensures.cells c.in_ok-bank.ensures.count c.in_ok-bank.ensures.loads
+of-room-requires g c =
+    let is : c.expect-cells.result ≡ cells_in (Saved 0) c.formatted_bank-bank.result = search rules in
+    let whole : IsCellBank c.expect-cells.result = search rules in
+    first_may_be c.expect-cells.result c.formatted_bank-bank.result is whole c.formatted_bank-bank.ensures.count c.formatted_bank-bank.ensures.loads

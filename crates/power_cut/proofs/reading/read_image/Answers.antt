@@ -1,12 +1,11 @@
 use Rattle.std.proofs.Common.{◌≡◌, ℕ, ◌-◌, ◌*◌, ◌<◌, ◌++◌, List, length, take, drop, get_or, ap, sym, ◌∙◌, arith, subst, length-drop}
 use Rattle.std.proofs.lemmas.List.{take_all}
-use Rattle.seq_object.specs.Sizes.{Sizes, AreValid}
-use Rattle.room_model.specs.Rooms.{line_total}
+use Rattle.seq_object.specs.Sizes.{AreValid, line_total}
 use Rattle.power_cut.specs.Image.{lists_of}
 use Rattle.power_cut.specs.Bytes.{head_bytes, rooms_bytes, image_bytes_of, image_length, sizes_at}
-use Rattle.power_cut.specs.Head.{sizes_of_head}
 use Rattle.power_cut.proofs.Heads.{IsFaultless, faultless, faultless-head}
 use Rattle.power_cut.proofs.Quiet.{one_spelling}
+use Rattle.seq_object.specs.declared.sizes.Sizes.{Sizes}
 use Rattle.power_cut.proofs.reading.read_image.Goals as goal
 
 -- what stands behind the head
@@ -30,13 +29,13 @@ pub read_rooms-requires-clause-valid : goal.read_rooms-requires-clause-valid
 read_rooms-requires-clause-valid c = subst AreValid (sym c.in-Ok.ensures.sizes) (faultless c.args.bytes.now c.in-Ok.ensures.faultless).valid
 
 pub read_rooms-requires-clause-size : goal.read_rooms-requires-clause-size
-read_rooms-requires-clause-size c = length-after_head c.args.bytes.now (sizes_of_head c.in-Ok.head) (faultless c.args.bytes.now c.in-Ok.ensures.faultless) c.in-Ok.ensures.sizes
+read_rooms-requires-clause-size c = length-after_head c.args.bytes.now c.in-Ok.sizes (faultless c.args.bytes.now c.in-Ok.ensures.faultless) c.in-Ok.ensures.sizes
 
 pub returns-clause-spelled : goal.returns-clause-spelled
 returns-clause-spelled c =
-    spelled c.args.bytes.now (sizes_of_head c.in-Ok.head) (lists_of c.in_ok-rooms.rooms.items) (faultless c.args.bytes.now c.in-Ok.ensures.faultless) c.in-Ok.ensures.sizes (λ i. let fits = c.type_inv.bytes i in omega arith) c.in_ok-rooms.ensures.spelled
+    spelled c.args.bytes.now c.in-Ok.sizes (lists_of c.in_ok-rooms.rooms.items) (faultless c.args.bytes.now c.in-Ok.ensures.faultless) c.in-Ok.ensures.sizes (λ i. let fits = c.type_inv.bytes i in omega arith) c.in_ok-rooms.ensures.spelled
 
 pub returns-clause-only : goal.returns-clause-only
 returns-clause-only c = λ z rooms whole is.
-    let own = spelled c.args.bytes.now (sizes_of_head c.in-Ok.head) (lists_of c.in_ok-rooms.rooms.items) (faultless c.args.bytes.now c.in-Ok.ensures.faultless) c.in-Ok.ensures.sizes (λ i. let fits = c.type_inv.bytes i in omega arith) c.in_ok-rooms.ensures.spelled in
-    one_spelling (sizes_of_head c.in-Ok.head) z (lists_of c.in_ok-rooms.rooms.items) rooms c.in_ok-rooms.ensures.shape whole (sym own ∙ is)
+    let own = spelled c.args.bytes.now c.in-Ok.sizes (lists_of c.in_ok-rooms.rooms.items) (faultless c.args.bytes.now c.in-Ok.ensures.faultless) c.in-Ok.ensures.sizes (λ i. let fits = c.type_inv.bytes i in omega arith) c.in_ok-rooms.ensures.spelled in
+    one_spelling c.in-Ok.sizes z (lists_of c.in_ok-rooms.rooms.items) rooms c.in_ok-rooms.ensures.shape whole (sym own ∙ is)

@@ -2,20 +2,19 @@ use Rattle.std.proofs.Common.{◌≡◌, ℕ, ◌<◌, ◌+◌, ◌-◌, ◌*◌
 use Rattle.std.specs.Global.{Vec}
 use Rattle.std.proofs.lemmas.Grind.{common_steps}
 use Rattle.std.proofs.lemmas.List.{length-map}
-use Rattle.room_model.specs.Image.{Image as Rooms, lines_at}
-use Rattle.room_model.specs.Rooms.{line_count, room_count}
+use Rattle.room_model.specs.Image.{ImageRooms as Rooms, lines_at}
 use Rattle.power_cut.specs.Image.{lists_of, HaveWords}
 use Rattle.power_cut.specs.Bytes.{rooms_bytes}
-use Rattle.power_cut.specs.Head.{sizes_of_head}
 use Rattle.power_cut.proofs.Each.{All-none, All-more}
 use Rattle.power_cut.proofs.Spelling.{HasLines}
 use Rattle.power_cut.proofs.Counts.{lines_from, lines_from-all}
 use Rattle.power_cut.proofs.Heaped.{lists_of-more, lines_at-more, rooms_bytes-more, room_fits, room_after}
+use Rattle.seq_object.specs.Sizes.{room_count, line_count}
 use Rattle.power_cut.proofs.reading.read_rooms.Goals as goal
 
 pub loop-room-init : goal.loop-room-init
 loop-room-init c =
-    let z = sizes_of_head c.args.head in
+    let z = c.args.sizes in
     let none : c.in_ok-rooms.rooms.items ≡ [] = c.in_ok-rooms.ensures.items in
     let all : room_count z - 0 ≡ room_count z = omega arith in
     record {
@@ -28,13 +27,13 @@ loop-room-init c =
 
 pub split_at-requires : goal.split_at-requires
 split_at-requires c =
-    let z = sizes_of_head c.args.head in
+    let z = c.args.sizes in
     let within : c.loop-room.room < room_count z = omega arith in
     room_fits z c.loop-room.room (room_count z) c.lines_of-lines.result (length c.loop-room.rest.now) within c.loop-room.invariant.left c.lines_of-lines.ensures
 
 pub loop-room-preserved : goal.loop-room-preserved
 loop-room-preserved c =
-    let z = sizes_of_head c.args.head in
+    let z = c.args.sizes in
     let within : c.loop-room.room < room_count z = omega arith in
     let before = lists_of c.loop-room.rooms.items in
     let own = c.in_ok-read_room.field-0.items in

@@ -1,10 +1,12 @@
-use Rattle.std.proofs.Common.{◌≡◌, ℕ, ◌++◌, List, [], ◌∷◌, length, ap, sym, ◌∙◌, arith, append-nil}
+use Rattle.std.proofs.Common.{◌≡◌, ℕ, ◌++◌, List, [], ◌∷◌, length, ap, sym, ◌∙◌, arith, append-nil, subst}
 use Rattle.std.specs.Global.{Vec}
 use Rattle.std.specs.Vec.Iter.{into_iter_items, into_iter_len}
-use Rattle.line_memory.specs.Line.{BankState}
+use Rattle.line_memory.specs.Line.{BankState, IsQuiet}
 use Rattle.power_cut.specs.Image.{lists_of, sizes_in, rooms_in}
 use Rattle.power_cut.specs.Cut.{quiet_memory}
 use Rattle.power_cut.proofs.Counts.{lines_in, lines_in-shape, line_total-few}
+use Rattle.power_cut.specs.declared.image.Image.{Image}
+use Rattle.power_cut.proofs.Quiet.{quiet_memory-quiet}
 use Rattle.power_cut.proofs.Heaped.{quiet_memory-few}
 use Rattle.power_cut.proofs.remaking.image_memory.Goals as goal
 
@@ -29,12 +31,19 @@ loop-lines-init c =
           ∙ ap (λ (rooms : List (Vec (List ℕ))). quiet_memory (lists_of rooms)) items;
     }
 
+-- where all rooms are made, they are the memory
+made : (image : Image) (banks : List BankState) (rest : List (Vec (List ℕ))) (n : ℕ) → n ≡ length rest → n ≡ 0 → banks ++ quiet_memory (lists_of rest) ≡ quiet_memory (rooms_in image) → banks ≡ quiet_memory (rooms_in image)
+made image banks rest n long gone are =
+    sym (append-nil banks) ∙ ap (λ (rooms : List (Vec (List ℕ))). banks ++ quiet_memory (lists_of rooms)) (sym (no_things rest (omega (arith, gone, long)))) ∙ are
+
 pub of-requires-2-clause-lines : goal.of-requires-2-clause-lines
 of-requires-2-clause-lines c =
-    let left = into_iter_items c.loop-lines.lines-iterator in
-    let gone : into_iter_len c.loop-lines.lines-iterator ≡ 0 = c.in-None.ensures.steps.0 in
-    let none : left ≡ [] = no_things left (omega (arith, gone, c.loop-lines.invariant.long)) in
-    let banks = c.loop-lines.banks.items in
-    let made : banks ≡ quiet_memory (rooms_in c.args.image) =
-    sym (append-nil banks) ∙ ap (λ (rooms : List (Vec (List ℕ))). banks ++ quiet_memory (lists_of rooms)) (sym none) ∙ c.loop-lines.invariant.made in
-    (quiet_memory-few (sizes_in c.args.image) (rooms_in c.args.image) banks c.requires made).1
+    let it = c.loop-lines.lines-iterator in
+    let all = made c.args.image c.loop-lines.banks.items (into_iter_items it) (into_iter_len it) c.loop-lines.invariant.long c.in-None.ensures.steps.0 c.loop-lines.invariant.made in
+    (quiet_memory-few (sizes_in c.args.image) (rooms_in c.args.image) c.loop-lines.banks.items c.requires all).1
+
+pub returns-clause-quiet : goal.returns-clause-quiet
+returns-clause-quiet c =
+    let it = c.loop-lines.lines-iterator in
+    let all = made c.args.image c.loop-lines.banks.items (into_iter_items it) (into_iter_len it) c.loop-lines.invariant.long c.in-None.ensures.steps.0 c.loop-lines.invariant.made in
+    subst IsQuiet (sym (c.of-2.ensures ∙ all)) (quiet_memory-quiet (rooms_in c.args.image))

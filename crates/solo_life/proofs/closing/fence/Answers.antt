@@ -18,19 +18,19 @@ returns-clause-solo c =
           let is = passed c.pass.new.self c.match-room.life (record s { map = new }) (phases.Closing c.args.room closings.Unlock) (phases.Closing cells.Map closings.Unlock)
           c.pass.ensures w.life-is (ap (λ (r : CellRoom). phases.Closing r closings.Unlock) w.in-Map.is) in
           (goes_to s c.pass.new.self (moved s new s.queue s.thread s.super_room (phases.Closing cells.Map closings.Unlock)) is
-          (map_fenced s new (c.requires.phase ∙ ap (λ (r : CellRoom). phases.Closing r closings.Fence) w.in-Map.is) c.requires.solo made.is made.contents made.held made.room.room)).1
+          (map_fenced s new (c.requires.phase ∙ ap (λ (r : CellRoom). phases.Closing r closings.Fence) w.in-Map.is) c.requires.solo made.is made.words made.in_memory made.whole.room)).1
       | in-Queue w ↦
           let new = w.close_fence-in-Queue.new.self in
           let made = w.close_fence-in-Queue.ensures in
           let is = passed c.pass.new.self c.match-room.life (record s { queue = new }) (phases.Closing c.args.room closings.Unlock) (phases.Closing cells.Queue closings.Unlock)
           c.pass.ensures w.life-is (ap (λ (r : CellRoom). phases.Closing r closings.Unlock) w.in-Queue.is) in
           (goes_to s c.pass.new.self (moved s s.map new s.thread s.super_room (phases.Closing cells.Queue closings.Unlock)) is
-          (queue_fenced s new (c.requires.phase ∙ ap (λ (r : CellRoom). phases.Closing r closings.Fence) w.in-Queue.is) c.requires.solo made.is made.contents made.held made.room.room)).1
+          (queue_fenced s new (c.requires.phase ∙ ap (λ (r : CellRoom). phases.Closing r closings.Fence) w.in-Queue.is) c.requires.solo made.is made.words made.in_memory made.whole.room)).1
       | in-Thread w ↦
           let new = w.close_fence-in-Thread.new.self in
           let made = w.close_fence-in-Thread.ensures in
           let is = passed c.pass.new.self c.match-room.life (record s { thread = new }) (phases.Closing c.args.room closings.Unlock) (phases.Closing cells.Thread closings.Unlock)
           c.pass.ensures w.life-is (ap (λ (r : CellRoom). phases.Closing r closings.Unlock) w.in-Thread.is) in
           (goes_to s c.pass.new.self (moved s s.map s.queue new s.super_room (phases.Closing cells.Thread closings.Unlock)) is
-          (thread_fenced s new (c.requires.phase ∙ ap (λ (r : CellRoom). phases.Closing r closings.Fence) w.in-Thread.is) c.requires.solo made.is made.held made.loads made.room)).1
+          (thread_fenced s new (c.requires.phase ∙ ap (λ (r : CellRoom). phases.Closing r closings.Fence) w.in-Thread.is) c.requires.solo made.is made.in_memory made.loads made.whole)).1
     ]

@@ -15,7 +15,7 @@ returns-clause-solo c =
       | in-Map w ↦
           let new = w.close_begin-lines.new.self in
           let made = w.close_begin-lines.ensures in
-          let both = map_locked s w.close_begin-lines.result new (c.requires.phase ∙ ap (λ (r : CellRoom). phases.Closing r closings.Lock) w.in-Map.is) c.requires.solo made.unasked made.is made.contents made.held made.room.room in
+          let both = map_locked s w.close_begin-lines.result new (c.requires.phase ∙ ap (λ (r : CellRoom). phases.Closing r closings.Lock) w.in-Map.is) c.requires.solo made.unasked made.is made.words made.in_memory made.whole.room in
           elim c.if-lines-gt0.branch [
             | then-lines-gt0 v ↦ (goes_to s c.pass.new.self (moved s new s.queue s.thread s.super_room (phases.Closing cells.Map closings.WriteBack))
                 (passed c.pass.new.self c.match-room.life (record s { map = new }) (phases.Closing c.args.room c.if-lines-gt0.next) (phases.Closing cells.Map closings.WriteBack)
@@ -29,7 +29,7 @@ returns-clause-solo c =
       | in-Queue w ↦
           let new = w.close_begin-lines-in-Queue.new.self in
           let made = w.close_begin-lines-in-Queue.ensures in
-          let both = queue_locked s w.close_begin-lines-in-Queue.result new (c.requires.phase ∙ ap (λ (r : CellRoom). phases.Closing r closings.Lock) w.in-Queue.is) c.requires.solo made.unasked made.is made.contents made.held made.room.room in
+          let both = queue_locked s w.close_begin-lines-in-Queue.result new (c.requires.phase ∙ ap (λ (r : CellRoom). phases.Closing r closings.Lock) w.in-Queue.is) c.requires.solo made.unasked made.is made.words made.in_memory made.whole.room in
           elim c.if-lines-gt0.branch [
             | then-lines-gt0 v ↦ (goes_to s c.pass.new.self (moved s s.map new s.thread s.super_room (phases.Closing cells.Queue closings.WriteBack))
                 (passed c.pass.new.self c.match-room.life (record s { queue = new }) (phases.Closing c.args.room c.if-lines-gt0.next) (phases.Closing cells.Queue closings.WriteBack)
@@ -43,7 +43,7 @@ returns-clause-solo c =
       | in-Thread w ↦
           let new = w.close_begin-lines-in-Thread.new.self in
           let made = w.close_begin-lines-in-Thread.ensures in
-          let both = thread_locked s w.close_begin-lines-in-Thread.result new (c.requires.phase ∙ ap (λ (r : CellRoom). phases.Closing r closings.Lock) w.in-Thread.is) c.requires.solo made.unasked made.is made.room in
+          let both = thread_locked s w.close_begin-lines-in-Thread.result new (c.requires.phase ∙ ap (λ (r : CellRoom). phases.Closing r closings.Lock) w.in-Thread.is) c.requires.solo made.unasked made.is made.whole in
           elim c.if-lines-gt0.branch [
             | then-lines-gt0 v ↦ (goes_to s c.pass.new.self (moved s s.map s.queue new s.super_room (phases.Closing cells.Thread closings.WriteBack))
                 (passed c.pass.new.self c.match-room.life (record s { thread = new }) (phases.Closing c.args.room c.if-lines-gt0.next) (phases.Closing cells.Thread closings.WriteBack)

@@ -16,7 +16,7 @@ returns c =
       | in-Map w ↦
           let new = w.close_next-more.new.self in
           let made = w.close_next-more.ensures in
-          let both = map_written_back s new (c.requires.phase ∙ ap (λ (r : CellRoom). phases.Closing r closings.WriteBack) w.in-Map.is) c.requires.solo made.line made.is made.fewer made.contents made.held made.room.room in
+          let both = map_written_back s new (c.requires.phase ∙ ap (λ (r : CellRoom). phases.Closing r closings.WriteBack) w.in-Map.is) c.requires.solo made.line made.is made.fewer made.words made.in_memory made.whole.room in
           elim c.if-more.branch [
             | then-more v ↦ goes_to s c.pass.new.self (moved s new s.queue s.thread s.super_room (phases.Closing cells.Map closings.WriteBack))
                 (passed c.pass.new.self c.match-room.life (record s { map = new }) (phases.Closing c.args.room c.if-more.next) (phases.Closing cells.Map closings.WriteBack)
@@ -30,7 +30,7 @@ returns c =
       | in-Queue w ↦
           let new = w.close_next-more-in-Queue.new.self in
           let made = w.close_next-more-in-Queue.ensures in
-          let both = queue_written_back s new (c.requires.phase ∙ ap (λ (r : CellRoom). phases.Closing r closings.WriteBack) w.in-Queue.is) c.requires.solo made.line made.is made.fewer made.contents made.held made.room.room in
+          let both = queue_written_back s new (c.requires.phase ∙ ap (λ (r : CellRoom). phases.Closing r closings.WriteBack) w.in-Queue.is) c.requires.solo made.line made.is made.fewer made.words made.in_memory made.whole.room in
           elim c.if-more.branch [
             | then-more v ↦ goes_to s c.pass.new.self (moved s s.map new s.thread s.super_room (phases.Closing cells.Queue closings.WriteBack))
                 (passed c.pass.new.self c.match-room.life (record s { queue = new }) (phases.Closing c.args.room c.if-more.next) (phases.Closing cells.Queue closings.WriteBack)
@@ -44,7 +44,7 @@ returns c =
       | in-Thread w ↦
           let new = w.close_next-more-in-Thread.new.self in
           let made = w.close_next-more-in-Thread.ensures in
-          let both = thread_written_back s new (c.requires.phase ∙ ap (λ (r : CellRoom). phases.Closing r closings.WriteBack) w.in-Thread.is) c.requires.solo made.line made.is made.fewer made.held made.room in
+          let both = thread_written_back s new (c.requires.phase ∙ ap (λ (r : CellRoom). phases.Closing r closings.WriteBack) w.in-Thread.is) c.requires.solo made.line made.is made.fewer made.in_memory made.whole in
           elim c.if-more.branch [
             | then-more v ↦ goes_to s c.pass.new.self (moved s s.map s.queue new s.super_room (phases.Closing cells.Thread closings.WriteBack))
                 (passed c.pass.new.self c.match-room.life (record s { thread = new }) (phases.Closing c.args.room c.if-more.next) (phases.Closing cells.Thread closings.WriteBack)

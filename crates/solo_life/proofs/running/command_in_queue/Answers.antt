@@ -7,7 +7,7 @@ returns-then-left-gt0-clause-solo c =
     let made = c.step.ensures in
     let left = c.left.ensures in
     let some = c.if-left-gt0.true in
-    command_stored_in_queue c.args.life.now c.pass.new.self c.args.under c.step.new.self c.requires.solo c.requires.phase c.requires.room (omega (arith, left, some)) made.is made.contents made.held made.room.room c.pass.ensures
+    command_stored_in_queue c.args.life.now c.pass.new.self c.args.under c.step.new.self c.requires.solo c.requires.phase c.requires.room (omega (arith, left, some)) made.is made.contents made.in_memory made.whole.room c.pass.ensures
 
 pub draw-entry-requires-clause-some : goal.draw-entry-requires-clause-some
 draw-entry-requires-clause-some c = within_in_queue c.args.life.now c.args.under c.requires.solo c.requires.phase c.requires.room
@@ -17,4 +17,4 @@ returns-clause-solo c =
     let drawn = c.draw-entry.ensures in
     let note = c.note.ensures in
     entry_drawn_in_queue c.args.life.now c.draw-entry.new.self c.pass-2.new.self c.args.under c.note.new.self (c.len.result - 1) c.draw-entry.result c.requires.solo c.requires.phase c.requires.room
-    drawn.entry drawn.is drawn.history drawn.room note.is note.room.room c.pass-2.ensures
+    drawn.entry drawn.is drawn.history drawn.room note.is note.whole.room c.pass-2.ensures

@@ -7,7 +7,7 @@ returns-then-left-gt0-clause-solo c =
     let made = c.step.ensures in
     let left = c.left.ensures.left in
     let some = c.if-left-gt0.true in
-    position_stored c.args.life.now c.pass.new.self c.step.new.self c.requires.solo c.requires.phase (omega (arith, left, some)) made.is made.state made.behind made.held made.room c.pass.ensures
+    position_stored c.args.life.now c.pass.new.self c.step.new.self c.requires.solo c.requires.phase (omega (arith, left, some)) made.is made.state made.behind made.in_memory made.room c.pass.ensures
 
 pub returns-else-left-gt0-clause-solo : goal.returns-else-left-gt0-clause-solo
 returns-else-left-gt0-clause-solo c =

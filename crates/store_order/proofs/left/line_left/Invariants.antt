@@ -1,6 +1,6 @@
 use Rattle.std.proofs.Common.{◌≡◌}
-use Rattle.line_memory.specs.Line.{left, line_at}
+use Rattle.line_memory.specs.Line.{survivor, line_at}
 use Rattle.store_order.proofs.left.line_left.Given as goal
 
 abbrev pub invariant-loop-i : goal.invariant-loop-i
-invariant-loop-i l = l.words ≡ left (line_at l.bank.lines l.line) l.i
+invariant-loop-i l = l.words ≡ survivor (line_at l.bank.lines l.line) l.i

@@ -1,4 +1,4 @@
-use Rattle.yard_laws.proofs.Legal.{life_flushes_little}
+use Rattle.yard_laws.proofs.WriteBacks.{life_flushes_little}
 use Rattle.yard_laws.proofs.lives.flushes_little_law.Goals as goal
 
 pub returns : goal.returns

@@ -12,8 +12,8 @@ invariant_of-self c = (behind c).room
 pub returns-clause-epoch : goal.returns-clause-epoch
 returns-clause-epoch c = (subst (λ (b : BankState). HasFenced b c.fence.new.self) c.self.view_is (behind c)).epoch
 
-pub returns-clause-held : goal.returns-clause-held
-returns-clause-held c = (subst (λ (b : BankState). HasFenced b c.fence.new.self) c.self.view_is (behind c)).held
+pub returns-clause-in_memory : goal.returns-clause-in_memory
+returns-clause-in_memory c = (subst (λ (b : BankState). HasFenced b c.fence.new.self) c.self.view_is (behind c)).held
 
 pub returns-clause-room : goal.returns-clause-room
 returns-clause-room c = (behind c).room

@@ -4,7 +4,7 @@ use Rattle.std.specs.Option.{option_copied}
 use Rattle.std.specs.List.{ItemBy}
 use Rattle.std.proofs.lemmas.Option.{slice_get_read}
 use Rattle.seq_object.specs.declared.command.Command.{Command}
-use Rattle.life_model.specs.Life.{saved}
+use Rattle.life_model.specs.Life.{covered}
 use Rattle.solo_life.specs.Life.{history_of, marks_of}
 use Rattle.solo_life.proofs.DoneSoFar.{saved_within, next_own, between_own}
 use Rattle.solo_life.proofs.life.SoloLife.next_command.Goals as goal
@@ -30,5 +30,5 @@ pub returns-else-drawn-saved-clause-none : goal.returns-else-drawn-saved-clause-
 returns-else-drawn-saved-clause-none c = λ none.
     let most = c.requires.done.legal.order.rest 0 in
     let within = saved_within c.args.self.now c.requires.done in
-    let since = between_own (history_of c.args.self.now) (saved (marks_of c.args.self.now)) c.requires.done.own within in
+    let since = between_own (history_of c.args.self.now) (covered (marks_of c.args.self.now)) c.requires.done.own within in
     inl (omega (arith, most, within, since))

@@ -1,0 +1,40 @@
+#!/usr/bin/env bash
+# Compares what a command writes with what README.md shows, letter by letter, and with the stored run of the program.
+#
+#     checks/reports.sh ./respct                            the words stand behind the command
+#     checks/reports.sh ./respct --unproved
+#     checks/reports.sh crates/respct/out/respct
+set -eu
+top=$(CDPATH='' cd -- "$(dirname -- "$0")/.." && pwd)
+command=$(CDPATH='' cd -- "$(dirname -- "$1")" && pwd)/$(basename -- "$1")
+shift
+room=$(mktemp -d)
+trap 'find "$room" -delete' EXIT
+cd "$room"
+
+# The report that README.md shows at this place among its reports.
+shown() {
+    awk -v wanted="$1" '
+        /^```/ { inside = !inside; first = inside; if (!inside) writes = 0; next }
+        first { first = 0; if ($0 == "respct-report 1") writes = ++found == wanted }
+        writes { print }
+    ' "$top/README.md"
+}
+
+# The run of this script ends with this status, and writes what is in the file `wanted`.
+compare() {
+    local status=0
+    "$command" "${@:3}" start --image compared.image <"$1" >written || status=$?
+    if [ "$status" != "$2" ] || [ ! -s wanted ] || ! diff wanted written >&2; then
+        echo "reports: ${1#"$top"/} ends with $status in place of $2, or writes another report than is shown" >&2
+        exit 1
+    fi
+}
+
+shown 1 >wanted
+compare "$top/examples/first.respct" 0 "$@"
+shown 2 >wanted
+compare "$top/examples/cut.respct" 4 "$@"
+cat "$top/crates/respct/stdout" >wanted
+compare "$top/crates/respct/stdin" 0 "$@"
+echo "reports: as README.md shows them, by $command $*"

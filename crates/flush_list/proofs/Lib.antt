@@ -1,0 +1,3 @@
+pub mod FirstMarks
+pub mod Giving
+pub mod Joining

@@ -1,0 +1,4 @@
+pub mod Lines
+pub mod ByRoom
+pub mod Memory
+pub mod Images
