@@ -1,0 +1,14 @@
+pub mod Views
+pub mod Fields
+pub mod Steps
+pub mod Quiet
+pub mod Locks
+pub mod Unlocks
+pub mod Retreats
+pub mod Grows
+pub mod Fits
+pub mod Draws
+pub mod Releases
+pub mod Openings
+pub mod Apart
+pub mod Told
