@@ -1,0 +1,9 @@
+pub mod Verdicts
+pub mod Taken
+pub mod Alone
+pub mod Ended
+pub mod Counts
+pub mod Totals
+pub mod Given
+pub mod Steps
+pub mod Stays

@@ -1,0 +1,16 @@
+use Rattle.std.proofs.Common.{refl}
+use Rattle.room_in_hand.specs.InHand.{shut}
+use Rattle.coordinator.proofs.Ended.{may_go, few_rooms, shut_home, ended_room}
+use Rattle.coordinator.proofs.closer.end_room.Goals as goal
+
+pub with-learnt-requires : goal.with-learnt-requires
+with-learnt-requires g c = let v = g.P.Post.view c.args.post.now in let was = c.requires.closer in
+    few_rooms _ v was shut c.args.room was.closes.hand (shut_home _ v was c.args.room was.closes.hand)
+
+pub unlock-requires : goal.unlock-requires
+unlock-requires g c = let v = g.P.Post.view c.args.post.now in let was = c.requires.closer in
+    record { may = may_go _ v was shut c.args.room was.closes.hand (shut_home _ v was c.args.room was.closes.hand) }
+
+pub returns-clause-did : goal.returns-clause-did
+returns-clause-did g c = let v = g.P.Post.view c.args.post.now in
+    ended_room _ v c.requires.closer c.args.room refl (g.P.Post.told c.args.post.now) (g.P.Post.told c.unlock.new.self) (g.P.Post.view c.unlock.new.self) c.unlock.ensures.done _ c.with-learnt.ensures

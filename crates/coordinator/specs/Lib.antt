@@ -1,0 +1,5 @@
+pub mod Learnts
+pub mod Closers
+pub mod Steps
+pub mod Events
+pub mod Laws

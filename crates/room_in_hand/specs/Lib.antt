@@ -1,0 +1,4 @@
+pub mod Known
+pub mod InHand
+pub mod Events
+pub mod Laws
