@@ -1,0 +1,13 @@
+pub mod Turns
+pub mod Events
+pub mod EpochEvents
+pub mod Lists
+pub mod Safe
+pub mod Begins
+pub mod Taken
+pub mod Endings
+pub mod FewWriteBacks
+pub mod GoesOn
+pub mod Opens
+pub mod Worlds
+pub mod TornCounts

@@ -1,0 +1,6 @@
+pub mod Restored
+pub mod Recovering
+pub mod Banks
+pub mod Ends
+pub mod Laws
+pub mod Kept
