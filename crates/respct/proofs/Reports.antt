@@ -8,27 +8,14 @@ use Rattle.seq_object.specs.Sizes.{AreValid, room_count}
 use Rattle.room_model.specs.Image.{ImageRooms}
 use Rattle.life_model.specs.declared.life.Life.{Life}
 use Rattle.life_model.specs.declared.life.Life.TheVariants.{Start, Resume}
-use Rattle.life_model.specs.declared.life.Mark.{Mark}
 use Rattle.life_model.specs.declared.life.Outcome.{Outcome}
 use Rattle.life_model.specs.Life.{Opening, sizes, script_of, lengths, marks_from, IsLegalLife}
-use Rattle.life_model.specs.Life.{AreRising as AreRisingLengths}
 use Rattle.life_model.specs.Present.{AreAscending, IsPresentOf}
 use Rattle.life_model.specs.Told.{ReportState, TellsOf}
 use Rattle.script_text.specs.Text.{IsCommand, IsSection}
-use Rattle.script_text.specs.ReportText.{AreRising}
 use Rattle.script_text.specs.ReportLimits.{HasReportText, IsPlacedEntry, last_epoch}
 use Rattle.respct.proofs.Entries.{IsOfScripts, of_scripts, thread_below, place_below, has, section}
 use Rattle.respct.proofs.Replies.{HoldsWords, entries_words}
-
--- marks that never fall end above where they begin
-top : (low : ℕ) (ns : List ℕ) (high : ℕ) → AreRisingLengths low ns high → low ≤ high
-top low [] high h = h
-top low (n ∷ ns) high h = let rest : n ≤ high = top n ns high h.1 in omega (arith, rest, h.0)
-
--- marks whose lengths never fall stand in order
-rising : (above all : ℕ) (marks : List Mark) → AreRisingLengths above (lengths marks) all → AreRising above all marks
-rising above all [] h = tt
-rising above all (m ∷ ms) h = (h.0, top m.length (lengths ms) all h.1, rising m.length all ms h.1)
 
 -- rooms that are held ascend, in each kind of life
 ascending : (life : Life) (o : Opening) (h : List Entry) (marks held : List ℕ) (outcome : Outcome) (memory : List BankState) → IsPresentOf (record o { life = life }) h marks held outcome memory → AreAscending held
@@ -63,7 +50,7 @@ has_text o image before r memory told valid sections holds few first last =
     record {
       words = (entries_words (sizes o) o.state.contents r.entries holds legal.replies (λ k d lt. command_words o.scripts _ sections (own k d lt)), few);
       entries = λ k d lt. placed o.scripts o.settings.threads _ legal.order.threads valid.few_threads sections (own k d lt);
-      marks = rising 0 (length r.entries) r.marks legal.order.rising;
+      marks = legal.order.rising;
       epochs = told.epochs ∙ ap (λ (n : ℕ). marks_from (n + 1) (lengths r.marks)) (sym began);
       first = omega (arith, began, first);
       last = omega (arith, began, last);

@@ -13,4 +13,5 @@ pub mod SectionLaws
 pub mod WholeLaws
 pub mod Readings
 pub mod PrintLaws
+pub mod MarkLaws
 pub mod ReportLaws

@@ -1,11 +1,10 @@
 -- The parts of a report, one after another.
-use Rattle.std.proofs.Common.{◌≡◌, ℕ, List, [], ◌∷◌, ◌++◌, sym, ap, ◌∙◌, append_assoc, codes, map}
+use Rattle.std.proofs.Common.{◌≡◌, ℕ, List, [], ◌∷◌, ◌++◌, ap, ◌∙◌, append_assoc, codes}
 use Rattle.std.specs.Fmt.{decimal}
 use Rattle.std.proofs.lemmas.List.{append-nil}
 use Rattle.life_model.specs.Told.{ReportState}
 use Rattle.script_text.specs.Text.{ended}
-use Rattle.script_text.specs.ReportText.{life_line, front_lines, item_lines, held_line, last_lines, report_bytes}
-use Rattle.script_text.proofs.PrintLaws.{ended-append}
+use Rattle.script_text.specs.ReportText.{life_line, front_lines}
 use Rattle.life_model.specs.Told.{ReportState}
 
 -- three parts behind a beginning, in another grouping

@@ -1,10 +1,11 @@
 -- The one text of a report.
-use Rattle.std.specs.Prelude.{ℕ, ◌-◌, ◌≤◌, List, [], ◌∷◌, ◌++◌, codes, map, take, drop, length, Bool, true, false}
+use Rattle.std.specs.Prelude.{ℕ, ◌-◌, List, [], ◌∷◌, ◌++◌, codes, map, take, drop, length, Bool, true, false}
 use Rattle.std.specs.Fmt.{decimal}
 use Rattle.seq_object.specs.declared.command.Reply.{Reply}
 use Rattle.seq_object.specs.declared.command.Reply.TheVariants as replies
 use Rattle.seq_object.specs.declared.history.Entry.{Entry}
 use Rattle.life_model.specs.declared.life.Mark.{Mark}
+use Rattle.life_model.specs.Life.{AreRising, lengths}
 use Rattle.life_model.specs.Told.{ReportState}
 use Rattle.life_model.specs.declared.life.Outcome.{Outcome}
 use Rattle.life_model.specs.declared.life.Outcome.TheVariants as outcomes
@@ -86,11 +87,6 @@ report_lines r = front_lines r ++ (item_lines 0 r.entries r.marks ++ (map held_l
 abbrev pub report_bytes : ReportState → List ℕ
 report_bytes r = ended (report_lines r)
 
--- marks that save more and more entries: their lengths do not fall, from so many on, and are at most the number of all
-abbrev pub AreRising : ℕ → ℕ → List Mark → Type 0
-AreRising above all [] = Unit {0}
-AreRising above all (m ∷ ms) = (above ≤ m.length) × (m.length ≤ all) × AreRising m.length all ms
-
--- each mark of the report has its place among the entries
+-- each mark of the report has its place among the entries: their lengths do not fall, and are at most the number of entries
 abbrev pub AreMarksRising : ReportState → Type 0
-AreMarksRising r = AreRising 0 (length r.entries) r.marks
+AreMarksRising r = AreRising 0 (lengths r.marks) (length r.entries)

@@ -3,8 +3,9 @@
 
 ghost use Rattle.std.specs.Prelude.{◌≡◌, ◌++◌, ◌-◌, [], ◌∷◌, map, length, take, OnOk, IfOk};
 ghost use Rattle.std.specs.String.{string_bytes};
+ghost use Rattle.life_model.specs.Life.{AreRising, lengths};
 ghost use Rattle.script_text.specs.Text.{ended};
-ghost use Rattle.script_text.specs.ReportText.{report_of, reply_text, entry_line, item_lines, held_line, life_line, front_lines, last_lines, report_bytes, AreRising, AreMarksRising};
+ghost use Rattle.script_text.specs.ReportText.{report_of, reply_text, entry_line, item_lines, held_line, life_line, front_lines, last_lines, report_bytes, AreMarksRising};
 
 use crate::printing::push_command_words;
 use crate::report::Report;
@@ -72,7 +73,7 @@ fn push_held(out: &mut String, held: &[u32]) -> Result<(), AllocError>
 
 // Writes the entries and the marks at the end, each mark behind the entries that it saves.
 fn push_items(out: &mut String, entries: &[Entry], marks: &[Mark]) -> Result<(), AllocError>
-    requires { AreRising 0 (length entries.now) marks.now }
+    requires { AreRising 0 (lengths marks.now) (length entries.now) }
     ensures { OnOk result (string_bytes out.new ≡ string_bytes out.old ++ ended (item_lines 0 entries.now marks.now)) }
 {
     let mut above: u64 = 0;
