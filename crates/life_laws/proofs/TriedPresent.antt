@@ -12,7 +12,7 @@ use Rattle.room_model.specs.MapRoom.{live_layout, IsMapRoom}
 use Rattle.room_model.specs.Rooms.{StandsFor, point_in}
 use Rattle.life_model.specs.declared.life.Outcome.TheVariants.{Finished, Cut}
 use Rattle.life_model.specs.Life.{next_command, contents_now, point_after}
-use Rattle.life_model.specs.Present.{IsUnderWay, IsPresent}
+use Rattle.life_model.specs.Present.{LoadsFirstStores, IsUnderWay, IsPresent}
 use Rattle.life_laws.specs.CutExamples.{small, putting, put_done, put_stores, blank, formatted_bank, line_of_epoch, fenced_write, half_put, PresentExamples, getting, enqueuing, getting_twice, got_twice, memory_with, header_line}
 use Rattle.life_laws.specs.Examples.{idle}
 use Rattle.life_model.specs.declared.life.Life.TheVariants.{Start}
@@ -42,11 +42,13 @@ under = record {
   command = Put 5 7;
   next = refl;
   here = refl;
-  before = bank_load (formatted_bank 9);
-  stood = no_nodes (bank_load (formatted_bank 9)) refl refl refl
-      (below_eight (λ b. bank_load (formatted_bank 9) (b + 1) 0 ≡ 0) refl refl refl refl refl refl refl refl);
-  made = 5;
-  loads = loads_stored (formatted_bank 9) (take 5 put_stores) within;
+  loads = record {
+    before = bank_load (formatted_bank 9);
+    stood = no_nodes (bank_load (formatted_bank 9)) refl refl refl
+        (below_eight (λ b. bank_load (formatted_bank 9) (b + 1) 0 ≡ 0) refl refl refl refl refl refl refl refl);
+    made = 5;
+    loads = loads_stored (formatted_bank 9) (take 5 put_stores) within;
+  };
 }
   where
     within : All (λ (s : PlannedStore). s.line < 16) (take 5 put_stores)
@@ -114,15 +116,18 @@ five_counted = memory_with (quiet_line (0 ∷ 9 ∷ 5 ∷ 0 ∷ 0 ∷ 0 ∷ 0 �
 never_five : IsUnderWay putting [] [] 0 (load_of five_counted 0) → ⊥
 never_five u = by_thread u.thread u.next
   where
+    first : LoadsFirstStores small 1 0 (Some u.command) (load_of five_counted 0) (contents_now putting [])
+    first = u.loads
+
     stores : Command → List PlannedStore
-    stores command = take u.made (command_stores live_layout small 1 0 u.before command)
+    stores command = take first.made (command_stores live_layout small 1 0 first.before command)
 
     by_thread : (thread : ℕ) → next_command putting [] thread ≡ Some u.command → ⊥
     by_thread zero next =
         let same : Put 5 7 ≡ u.command = cc (next) in
-        let here : stored_in u.before (stores (Put 5 7)) 0 2 ≡ 5 =
-        ap (λ (c : Command). stored_in u.before (stores c) 0 2) same ∙ sym (u.loads 0 2) in
-        absurd (omega (arith, here, low_count u.before u.made u.stood))
+        let here : stored_in first.before (stores (Put 5 7)) 0 2 ≡ 5 =
+        ap (λ (c : Command). stored_in first.before (stores c) 0 2) same ∙ sym (first.loads 0 2) in
+        absurd (omega (arith, here, low_count first.before first.made first.stood))
     by_thread (suc thread) next = absurd (cc (next))
 
 -- no stores
@@ -193,13 +198,16 @@ present_tried = record {
     no_get : IsUnderWay getting [] [] 0 (load_of (half_put blank) 0) → ⊥
     no_get u = by_thread u.thread u.next
       where
+        first : LoadsFirstStores small 1 0 (Some u.command) (load_of (half_put blank) 0) (contents_now getting [])
+        first = u.loads
+
         stores : Command → List PlannedStore
-        stores command = take u.made (command_stores live_layout small 1 0 u.before command)
+        stores command = take first.made (command_stores live_layout small 1 0 first.before command)
 
         as_it_is : Get 5 ≡ u.command → IsMapRoom live_layout small 0 (load_of (half_put blank) 0) (shard_pairs small 0 (contents_now getting []).pairs)
         as_it_is same = subst (λ (r : RoomWords). IsMapRoom live_layout small 0 r (shard_pairs small 0 (contents_now getting []).pairs))
-            (λ m line word. sym (u.loads line word ∙ sym (ap (λ (c : Command). stored_in u.before (stores c) line word) same)
-            ∙ ap (λ (ss : List PlannedStore). stored_in u.before ss line word) (no_stores u.made)) m) u.stood
+            (λ m line word. sym (first.loads line word ∙ sym (ap (λ (c : Command). stored_in first.before (stores c) line word) same)
+            ∙ ap (λ (ss : List PlannedStore). stored_in first.before ss line word) (no_stores first.made)) m) first.stood
 
         by_thread : (thread : ℕ) → next_command getting [] thread ≡ Some u.command → ⊥
         by_thread zero next = half_broken blank (shard_pairs small 0 (contents_now getting []).pairs) (as_it_is (cc (next)))

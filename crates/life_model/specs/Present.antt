@@ -1,14 +1,16 @@
 -- What the loads of a memory say at the end of a life: each room that no thread holds stands for its part of what the history leaves.
-use Rattle.std.specs.Prelude.{◌≡◌, ℕ, ◌<◌, ◌≤◌, ◌⊎◌, List, [], ◌∷◌, length, take, Some}
+use Rattle.std.specs.Prelude.{◌≡◌, ℕ, ◌<◌, ◌≤◌, ◌⊎◌, List, [], ◌∷◌, length, take, Option, Some, None}
 use Rattle.std.specs.List.{Contains}
 use Rattle.seq_object.specs.declared.command.Command.{Command}
 use Rattle.seq_object.specs.declared.history.Entry.{Entry}
-use Rattle.seq_object.specs.Object.{room_of}
+use Rattle.seq_object.specs.Object.{Contents, room_of}
+use Rattle.seq_object.specs.declared.sizes.Sizes.{Sizes}
 use Rattle.life_model.specs.declared.life.Life.{Life}
 use Rattle.life_model.specs.declared.life.Life.TheVariants.{Start, Resume}
 use Rattle.life_model.specs.declared.life.Outcome.{Outcome}
 use Rattle.life_model.specs.declared.life.Outcome.TheVariants.{Finished, Stalled, Cut, Starved}
 use Rattle.line_memory.specs.Line.{BankState, load_of}
+use Rattle.room_model.specs.declared.write.PlannedStore.{PlannedStore}
 use Rattle.room_model.specs.Chains.{RoomWords}
 use Rattle.room_model.specs.MapRoom.{live_layout}
 use Rattle.room_model.specs.Rooms.{StandsFor, point_in}
@@ -17,17 +19,25 @@ use Rattle.life_model.specs.Life.{Opening, sizes, next_command, covered, content
 use Rattle.life_model.specs.Crash.{epoch_after}
 use Rattle.seq_object.specs.Sizes.{thread_room}
 
--- a command was under way in a room: it is some thread's next, the room stood for its part, and a prefix of the command's stores was made
+-- the stores of a command in a room in an epoch, by these words; none where there is no command, or it is for another room
+abbrev pub stores_here : Sizes → ℕ → ℕ → RoomWords → Option Command → List PlannedStore
+stores_here z epoch r words None = []
+stores_here z epoch r words (Some command) = command_stores live_layout z epoch r words command
+
+-- these words are what some words that stand for the room's part become by the first stores of the command
+pub record LoadsFirstStores (z : Sizes) (epoch r : ℕ) (command : Option Command) (words : RoomWords) (c : Contents) : Type 0 where
+  pub before : RoomWords
+  pub stood : StandsFor live_layout z r before c
+  pub made : ℕ
+  pub loads : (line word : ℕ) → words line word ≡ stored_in before (take made (stores_here z epoch r before command)) line word
+
+-- a command was under way in a room: it is some thread's next and for this room, and the room loads its part behind first stores of it
 pub record IsUnderWay (o : Opening) (h : List Entry) (marks : List ℕ) (room : ℕ) (r : RoomWords) : Type 0 where
   pub thread : ℕ
   pub command : Command
   pub next : next_command o h thread ≡ Some command
   pub here : room_of (sizes o) command ≡ room
-  pub before : RoomWords
-  pub stood : StandsFor live_layout (sizes o) room before (contents_now o h)
-  pub made : ℕ
-  pub loads : (line word : ℕ)
-      → r line word ≡ stored_in before (take made (command_stores live_layout (sizes o) (epoch_after o marks) room before command)) line word
+  pub loads : LoadsFirstStores (sizes o) (epoch_after o marks) room (Some command) r (contents_now o h)
 
 -- each number is above the one before it
 abbrev pub AreAscending : List ℕ → Type 0

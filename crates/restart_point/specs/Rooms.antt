@@ -67,7 +67,7 @@ abbrev pub with_line_spare : CellBankState → ℕ → CellBankState
 with_line_spare cells spare = record cells { bank = bank_with_spare cells.bank 0 spare }
 
 -- stores that can be made one after the other on cells that run
-pub record IsUnderWay (cells : CellBankState) (stores : List PlannedStore) : Type 0 where
+pub record CanBePlayed (cells : CellBankState) (stores : List PlannedStore) : Type 0 where
   pub running : IsRunning cells.state
   pub planned : IsPlanned (epoch_of cells.state) cells.bank.lines stores
   pub room : HasPlacesFor cells.bank.lines stores
@@ -76,6 +76,6 @@ pub record IsUnderWay (cells : CellBankState) (stores : List PlannedStore) : Typ
 pub record IsThreadRoom (room : ThreadRoomState) : Type 0 where
   pub cells : IsCellBank room.cells
   pub one : length room.cells.bank.lines ≡ 1
-  pub under_way : 0 < length room.plan.stores → IsUnderWay room.cells room.plan.stores
+  pub under_way : 0 < length room.plan.stores → CanBePlayed room.cells room.plan.stores
   pub plan_room : 5 ≤ length room.plan.stores + room.plan.spare
   pub line_room : 5 ≤ places_of (line_in room)

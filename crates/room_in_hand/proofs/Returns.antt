@@ -32,7 +32,8 @@ use Rattle.yard_model.specs.declared.view.Grip.{Grip}
 use Rattle.yard_model.specs.Beginnings.{write_backs_at}
 use Rattle.yard_model.specs.Knows.{sizes_known, is_closing, closings_known, next_of}
 use Rattle.yard_model.specs.Homes.{IsFreeState, IsDeadState, IsSafeRoom, IsFreeRoom, IsDeadRoom, IsEpochOrNext, free_bound, dead_bound, position_bound}
-use Rattle.yard_model.specs.Dead.{LoadsFirstStores, begun_by}
+use Rattle.life_model.specs.Present.{LoadsFirstStores}
+use Rattle.yard_model.specs.Dead.{begun_by}
 use Rattle.yard_model.specs.Conditions.{behind, IsKeptRoom, IsFreeFor, IsDeadFor, MayUnlock, MayRetreat}
 use Rattle.room_in_hand.specs.Known.{knows}
 use Rattle.room_in_hand.specs.InHand.{resting, flushing, flushed, shut, writing_epoch, IsKept, IsResting, IsWritingEpoch, WritesEpoch, epoch_write_backs}
@@ -135,7 +136,7 @@ module _ (v : View) (g : Grip) (x : Room) (kept : IsKept (knows v g) x) (rests :
   }
 
   -- no store was made of whatever command comes next
-  pub loads_none : (command : Option Command) → g.room ≤ z.shards → LoadsFirstStores z v.ran g.room command x (behind v g.room (history_of x))
+  pub loads_none : (command : Option Command) → g.room ≤ z.shards → LoadsFirstStores z v.ran g.room command (loads x) (behind v g.room (history_of x))
   loads_none command low = record { before = loads x; stood = stands_now low; made = 0; loads = λ line word. refl }
 
 runs_not : (phase : Phase) → phase ≡ Closing → phase ≡ Running → ⊥

@@ -137,10 +137,12 @@ under_way under o h marks room s is = record {
   command = under.command;
   next = is.next;
   here = is.here;
-  before = is.words;
-  stood = is.stood;
-  made = is.count;
-  loads = λ line word. ap (λ (r : RoomWords). r line word) is.made.loads;
+  loads = record {
+    before = is.words;
+    stood = is.stood;
+    made = is.count;
+    loads = λ line word. ap (λ (r : RoomWords). r line word) is.made.loads;
+  };
 }
 
 -- whatever a room is used for, it stands by its loads for what the history leaves, or a command is under way in it

@@ -22,6 +22,7 @@ use Rattle.life_model.specs.declared.life.Life.TheVariants.{Start, Resume}
 use Rattle.life_model.specs.Life.{script_of, place_after, point_after, next_command, entries_between, MayJoin as MayDrawEntry, contents_now}
 use Rattle.life_laws.proofs.Steps.{order_draw}
 use Rattle.rooms.specs.declared.room.Room.{Room}
+use Rattle.rooms.specs.Rooms.{loads}
 use Rattle.yard_model.specs.declared.view.Phase.{Phase}
 use Rattle.yard_model.specs.declared.view.Phase.TheVariants.{Standing, Running, Closing}
 use Rattle.yard_model.specs.declared.view.Beginning.{Beginning}
@@ -33,7 +34,8 @@ use Rattle.yard_model.specs.Entries.{placed, picked, is_of_thread, is_for_room, 
 use Rattle.yard_model.specs.Beginnings.{opening_of, sizes_at, recovery_marks, lengths_of, marks_of, epoch_now, covered_by, covered_part, covered_contents, is_over, is_fed, has_items}
 use Rattle.yard_model.specs.Knows.{stands, is_closing, HasCause, IsAtPlace, MayHold}
 use Rattle.yard_model.specs.World.{YardState, tick_word, clock, arrival, lock_of, dead, ViewIs, Home, closes, Shows}
-use Rattle.yard_model.specs.Dead.{LoadsFirstStores, begun_by, LeftRoom}
+use Rattle.life_model.specs.Present.{LoadsFirstStores}
+use Rattle.yard_model.specs.Dead.{begun_by, LeftRoom}
 use Rattle.yard_model.specs.Lawful.{ShowsArrival, HoldsLocks, CountsEntries, HasLegalRooms, KeepsEpochs, KeepsRooms, KeepsPositions, KeepsBounds, Lawful}
 use Rattle.yard_model.specs.Views.{drew, with_drawn}
 use Rattle.yard_model.specs.Conditions.{MayDraw}
@@ -223,7 +225,7 @@ module _ (b : Beginning) (w : YardState) (h : List Entry) (cs : List Checkpoint)
 
   left_on : (j : ℕ) (c : View) → j ≢ i → ViewIs w j c → LeftRoom b longer cs (Home w) j c.phase c.given_back
   left_on j c n f k is low x at_home = let o = l.loads.dead_room j c f k is low x at_home in
-      subst (λ (next : Option Command). LoadsFirstStores (sizes_at b) (epoch_now b cs) k.room (begun_by k.drew (is_closing c.phase) next) x (contents_now (opening_of b) longer)) (sym (next_same j n))
+      subst (λ (next : Option Command). LoadsFirstStores (sizes_at b) (epoch_now b cs) k.room (begun_by k.drew (is_closing c.phase) next) (loads x) (contents_now (opening_of b) longer)) (sym (next_same j n))
       (record { before = o.before; stood = stands_on k.room (other_given j c f k is) o.before o.stood; made = o.made; loads = o.loads })
 
   loads_drawn : HasLegalRooms b next longer cs

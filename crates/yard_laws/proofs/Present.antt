@@ -18,7 +18,7 @@ use Rattle.room_laws.proofs.MapLaws.{layouts}
 use Rattle.life_model.specs.declared.life.Outcome.{Outcome}
 use Rattle.life_model.specs.declared.life.Outcome.TheVariants.{Finished, Stalled, Cut, Starved}
 use Rattle.life_model.specs.Life.{point_after, next_command, covered, contents_now}
-use Rattle.life_model.specs.Present.{IsUnderWay, AreAscending, HoldsNoneAt}
+use Rattle.life_model.specs.Present.{stores_here, LoadsFirstStores, IsUnderWay, AreAscending, HoldsNoneAt}
 use Rattle.room_laws.proofs.Words.{words as same_words}
 use Rattle.rooms.specs.declared.room.Room.{Room}
 use Rattle.yard_model.specs.declared.view.Phase.{Phase}
@@ -31,7 +31,7 @@ use Rattle.rooms.specs.Rooms.{loads}
 use Rattle.yard_model.specs.Beginnings.{opening_of, sizes_at, marks_of, epoch_now, covered_part, is_over}
 use Rattle.yard_model.specs.Knows.{stands, is_closing}
 use Rattle.yard_model.specs.World.{YardState, lock_of, dead, Home, total_of}
-use Rattle.yard_model.specs.Dead.{LoadsFirstStores, stores_here, begun_by}
+use Rattle.yard_model.specs.Dead.{begun_by}
 use Rattle.yard_model.specs.Lawful.{Lawful}
 use Rattle.yard_model.specs.Lives.{IsMemoryOf, NamesDead, LifeIsPresentLaw}
 use Rattle.yard_model.specs.Outcomes.{ShowsEnd}
@@ -129,7 +129,7 @@ module _ (b : Beginning) (w : YardState) (h : List Entry) (cs : List Checkpoint)
 
   -- a room that was given back stands, or a command is under way in it
   began : (k : GivenBack) (i : ℕ) (x : Room) (command : Option Command) → (command ≡ None) ⊎ (command ≡ next_command (opening_of b) h i)
-      → LoadsFirstStores (sizes_at b) (epoch_now b cs) k.room command x (contents_now (opening_of b) h)
+      → LoadsFirstStores (sizes_at b) (epoch_now b cs) k.room command (loads x) (contents_now (opening_of b) h)
       → StandsFor live_layout (sizes_at b) k.room (loads x) (contents_now (opening_of b) h) ⊎ IsUnderWay (opening_of b) h (marks_of b cs) k.room (loads x)
   began k i x None which f = inl (same_words live_layout (sizes_at b) k.room f.before (loads x) (contents_now (opening_of b) h) layouts.in_use f.stood (λ line word lt. f.loads line word ∙ none f.made f.before line word))
     where
@@ -143,10 +143,7 @@ module _ (b : Beginning) (w : YardState) (h : List Entry) (cs : List Checkpoint)
         command = command;
         next = next which;
         here = is;
-        before = f.before;
-        stood = f.stood;
-        made = f.made;
-        loads = subst (λ (n : ℕ). (line word : ℕ) → loads x line word ≡ stored_in f.before (take f.made (stores_here (sizes_at b) n k.room f.before (Some command))) line word) (sym (epoch_same b cs)) f.loads;
+        loads = subst (λ (n : ℕ). LoadsFirstStores (sizes_at b) n k.room (Some command) (loads x) (contents_now (opening_of b) h)) (sym (epoch_same b cs)) f;
       })
         where
           next : (Some command ≡ None) ⊎ (Some command ≡ next_command (opening_of b) h i) → next_command (opening_of b) h i ≡ Some command

@@ -20,7 +20,8 @@ use Rattle.rooms.specs.Rooms.{history_of, loads}
 use Rattle.yard_model.specs.Beginnings.{opening_of, sizes_at, epoch_now}
 use Rattle.yard_model.specs.Knows.{stands, is_closing, MayHold, IsAtPlace}
 use Rattle.yard_model.specs.World.{YardState, lock_of, dead, ViewIs, Home, closes, done_in}
-use Rattle.yard_model.specs.Dead.{LoadsFirstStores, stores_here, begun_by, LeftRoom}
+use Rattle.life_model.specs.Present.{LoadsFirstStores, stores_here}
+use Rattle.yard_model.specs.Dead.{begun_by, LeftRoom}
 use Rattle.yard_model.specs.Lawful.{Lawful}
 use Rattle.yard_laws.proofs.Lists.{each_set}
 use Rattle.yard_laws.proofs.Views.{any_there, done_set}
@@ -90,7 +91,7 @@ module _ (b : Beginning) (w : YardState) (h : List Entry) (cs : List Checkpoint)
       (returns.covered_history b w h cs i v u g x dead l at may.held may.kept refl refl refl) may.dead_room not_done)
 
   -- the stores that were made are of the thread's next command
-  left_loads : r ≤ b.settings.shards → LoadsFirstStores (sizes_at b) now r (begun_by (not (is_none g.drawn)) (is_closing v.phase) (next_command (opening_of b) h i)) x (contents_now (opening_of b) h)
+  left_loads : r ≤ b.settings.shards → LoadsFirstStores (sizes_at b) now r (begun_by (not (is_none g.drawn)) (is_closing v.phase) (next_command (opening_of b) h i)) (loads x) (contents_now (opening_of b) h)
   left_loads low = let f = may.stands (let s = ap (λ (c : Beginning). c.settings.shards) (l.sized.beginnings i v at) in omega (arith, low, s)) in record {
     before = f.before;
     stood = by_life b v (l.sized.beginnings i v at) (some_shards b w h cs l) r (history_of x) h (returns.all_history b w h cs i v u g x dead l at may.held may.kept refl refl refl) f.before (subst (λ (c : Beginning). StandsFor live_layout (sizes_at c) r f.before (behind v r (history_of x))) (l.sized.beginnings i v at) f.stood);
@@ -100,9 +101,9 @@ module _ (b : Beginning) (w : YardState) (h : List Entry) (cs : List Checkpoint)
   }
 
   left : LeftRoom b h cs (Home next) i u.phase u.given_back
-  left = on_gave (λ (k : GivenBack). k.room ≤ b.settings.shards → (s : Room) → Home next k.room s → LoadsFirstStores (sizes_at b) now k.room (begun_by k.drew (is_closing v.phase) (next_command (opening_of b) h i)) s (contents_now (opening_of b) h))
+  left = on_gave (λ (k : GivenBack). k.room ≤ b.settings.shards → (s : Room) → Home next k.room s → LoadsFirstStores (sizes_at b) now k.room (begun_by k.drew (is_closing v.phase) (next_command (opening_of b) h i)) (loads s) (contents_now (opening_of b) h))
       (λ low s at'. ⊎_elim
-      (λ (t : (r ≡ r) × (x ≡ s)). subst (λ (s : Room). LoadsFirstStores (sizes_at b) now r (begun_by (not (is_none g.drawn)) (is_closing v.phase) (next_command (opening_of b) h i)) s (contents_now (opening_of b) h)) t.1 (left_loads low))
+      (λ (t : (r ≡ r) × (x ≡ s)). subst (λ (s : Room). LoadsFirstStores (sizes_at b) now r (begun_by (not (is_none g.drawn)) (is_closing v.phase) (next_command (opening_of b) h i)) (loads s) (contents_now (opening_of b) h)) t.1 (left_loads low))
       (λ (t : (r ≢ r) × Home w r s). absurd (t.0 refl)) (returns.this_or_there b w h cs i v u g x dead l at may.held may.kept refl refl refl r s at'))
 
   own_room_of : (j : ℕ) → thread_room (sizes_at b) j ≡ r → v.phase ≡ Running → j ≡ i

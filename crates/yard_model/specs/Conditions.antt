@@ -21,7 +21,8 @@ use Rattle.yard_model.specs.Entries.{entries_of, is_of_thread, is_for_room}
 use Rattle.rooms.specs.Rooms.{bank_of, state_of, history_of, end_of, IsRoomOf, loads, lines_unasked}
 use Rattle.yard_model.specs.Beginnings.{opening_of, write_backs_at}
 use Rattle.yard_model.specs.Knows.{is_closing, sizes_known, point_of, place_of, next_of, closings_known, HasCause, IsAtPlace, MayHold}
-use Rattle.yard_model.specs.Dead.{LoadsFirstStores, begun_by}
+use Rattle.life_model.specs.Present.{LoadsFirstStores}
+use Rattle.yard_model.specs.Dead.{begun_by}
 use Rattle.room_model.specs.Banks.{memory_words}
 use Rattle.yard_model.specs.Locks.{drawn_of}
 use Rattle.yard_model.specs.Homes.{IsFreeRoom, IsDeadRoom}
@@ -92,7 +93,7 @@ pub record MayRetreat (v : View) (g : Grip) (x : Room) : Type 0 where
   pub kept : IsKeptRoom v g x
   pub dead_room : IsDeadFor v g.room (take g.covered g.history) x
   pub stands : g.room ≤ (sizes_known v).shards
-      → LoadsFirstStores (sizes_known v) v.ran g.room (begun_by (not (is_none g.drawn)) (is_closing v.phase) (next_of v)) x (behind v g.room (history_of x))
+      → LoadsFirstStores (sizes_known v) v.ran g.room (begun_by (not (is_none g.drawn)) (is_closing v.phase) (next_of v)) (loads x) (behind v g.room (history_of x))
 
 -- LEAVE. The word found shows neither closing nor over, a later epoch than the thread ran in, and that a thread of this end may leave.
 pub record MayLeave (v : View) (end : ThreadEnd) (word : ℕ) : Type 0 where
