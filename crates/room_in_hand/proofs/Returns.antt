@@ -1,6 +1,6 @@
 -- What is in hand may be given back.
 use Rattle.std.proofs.Common.{◌≡◌, ℕ, ◌+◌, ◌*◌, ◌<◌, ◌≤◌, inl, inr, Bool, true, false, cond, None, Some, List, [], length, take, refl, ap, sym, ◌∙◌, subst, arith, ⊎_elim, leb}
-use Rattle.std.specs.Prelude.{nat_le, nat_lt, not, is_none, slice_index, Option}
+use Rattle.std.specs.Prelude.{nat_le, nat_lt, not, is_none, Option}
 use Rattle.std.proofs.lemmas.Bool.{le-ltb}
 use Rattle.std.proofs.lemmas.Bool.Decides.{leb_tells}
 use Rattle.seq_object.specs.declared.command.Command.{Command}
@@ -8,11 +8,11 @@ use Rattle.seq_object.specs.declared.history.Noted.{Noted}
 use Rattle.seq_object.specs.declared.sizes.Sizes.{Sizes}
 use Rattle.seq_object.specs.Sizes.{super_room}
 use Rattle.line_memory.specs.declared.store.Store.{Store}
-use Rattle.line_memory.specs.Line.{BankState, line_at, is_unasked, unasked, survivor}
+use Rattle.line_memory.specs.Line.{BankState, line_at, is_unasked, unasked}
 use Rattle.room_model.specs.Chains.{RoomWords}
 use Rattle.room_model.specs.MapRoom.{live_layout}
 use Rattle.room_model.specs.Rooms.{StandsFor, point_in}
-use Rattle.room_model.specs.EpochLine.{epoch_line}
+use Rattle.room_model.specs.EpochLine.{epoch_line, surviving_epoch}
 use Rattle.incll_var.specs.declared.state.CellState.{CellState}
 use Rattle.incll_var.specs.declared.state.CellState.TheVariants.{Torn, Running as RunningCells, Closing as ClosingCells, Saved}
 use Rattle.incll_var.specs.Cells.{IsTorn, IsSavedIn}
@@ -192,7 +192,7 @@ module _ (v : View) (g : Grip) (bank : BankState) (stage : EpochStage) (kept : I
       by InMemory = omega arith
 
   -- whatever a cut leaves is the epoch or the next
-  survives : (s : EpochStage) → IsAtStage s v.ran bank → (k : ℕ) → IsEpochOrNext v.ran (Super bank) (slice_index (survivor (epoch_line bank) k) 0)
+  survives : (s : EpochStage) → IsAtStage s v.ran bank → (k : ℕ) → IsEpochOrNext v.ran bank (surviving_epoch bank k)
   survives Before at k = inl (surviving_law Before bank v.ran k kept.whole at)
   survives Stored at k = ⊎_elim (λ e. inl e) (λ e. inr (e, at.1)) (surviving_law Stored bank v.ran k kept.whole at)
   survives AskedFor at k = ⊎_elim (λ e. inl e) (λ e. inr (e, at.1)) (surviving_law AskedFor bank v.ran k kept.whole at)

@@ -49,7 +49,7 @@ use Rattle.yard_laws.proofs.Stretches.{all_may_end}
 use Rattle.yard_laws.proofs.Legal.{life_is_legal, length_lengths}
 use Rattle.yard_laws.proofs.Arrivals.{others_stand, stands_gave_none}
 use Rattle.room_model.specs.Banks.{memory_words}
-use Rattle.room_model.specs.EpochLine.{epoch_line}
+use Rattle.room_model.specs.EpochLine.{epoch_line, surviving_epoch}
 use Rattle.yard_model.specs.Homes.{IsFreeState, IsDeadState, IsEpochOrNext}
 use Rattle.seq_object.specs.Sizes.{thread_room, super_room, room_count}
 
@@ -257,8 +257,8 @@ module _ (b : Beginning) (w : YardState) (h : List Entry) (cs : List Checkpoint)
       let c = closing t.0 t.1 t.2 (subst (λ (r : ℕ). MayHold (sizes_at b) t.0 t.1.phase t.1.closed.rooms r) t.3.2 g) in
       safe_next t.0 t.1 t.2 c.0 (λ r few. let p = total_part done_by w.views t.0 t.1 t.2 in let o = ap (λ (p : Phase). cond (is_closing p) t.1.closed.rooms 0) c.0 in let m = c.1 in omega (arith, few, p, o, m))
       (λ k given. let same : t.3.0 ≡ k = same_given t.3.0 k (sym t.3.1 ∙ given) in let n = t.3.2 in let o = ap (λ (k : GivenBack). k.room) same in omega (arith, n, o))
-      (record { either = λ k. subst (λ (n : ℕ). (n ≡ e) ⊎ (n ≡ e + 1)) (sym (same_survivor k)) (either (slice_index (survivor (epoch_line (bank_of x)) k) 0) (f.epoch_word refl k)); stored = load ∙ is }))
-      (λ n. safe_epoch (λ k. same_survivor k ∙ only (slice_index (survivor (epoch_line (bank_of x)) k) 0) n (f.epoch_word refl k)))
+      (record { either = λ k. subst (λ (n : ℕ). (n ≡ e) ⊎ (n ≡ e + 1)) (sym (same_survivor k)) (either (surviving_epoch (bank_of x) k) (f.epoch_word refl k)); stored = load ∙ is }))
+      (λ n. safe_epoch (λ k. same_survivor k ∙ only (surviving_epoch (bank_of x) k) n (f.epoch_word refl k)))
     where
       closing : (i : ℕ) (v : View) → ViewIs w i v → MayHold (sizes_at b) i v.phase v.closed.rooms (super_room (sizes_at b)) → (v.phase ≡ Closing) × (super_room (sizes_at b) ≡ v.closed.rooms)
       closing i v at holds = by v.phase refl holds
@@ -272,11 +272,11 @@ module _ (b : Beginning) (w : YardState) (h : List Entry) (cs : List Checkpoint)
       same_given : (j k : GivenBack) → Some j ≡ Some k → j ≡ k
       same_given j k q = cc
 
-      either : (n : ℕ) → IsEpochOrNext e x n → (n ≡ e) ⊎ (n ≡ e + 1)
+      either : (n : ℕ) → IsEpochOrNext e (bank_of x) n → (n ≡ e) ⊎ (n ≡ e + 1)
       either n (inl o) = inl o
       either n (inr o) = inr o.0
 
-      only : (n : ℕ) → loads x 0 0 ≢ e + 1 → IsEpochOrNext e x n → n ≡ e
+      only : (n : ℕ) → loads x 0 0 ≢ e + 1 → IsEpochOrNext e (bank_of x) n → n ≡ e
       only n not' (inl o) = o
       only n not' (inr o) = absurd (not' o.1)
 

@@ -1,15 +1,15 @@
 -- What is known of a room at home: one that is free, and one that was given back in mid-work. The lawful world says it of each room,
 -- lock tells it of the room that it gives, and who gives a room back owes it.
-use Rattle.std.specs.Prelude.{◌≡◌, ℕ, ◌+◌, ◌*◌, ◌<◌, ◌≤◌, ◌⊎◌, nat_lt, nat_le, Bool, true, List, [], length, slice_index, if◌then◌else◌}
+use Rattle.std.specs.Prelude.{◌≡◌, ℕ, ◌+◌, ◌*◌, ◌<◌, ◌≤◌, ◌⊎◌, nat_lt, nat_le, Bool, true, List, [], length, if◌then◌else◌}
 use Rattle.seq_object.specs.declared.history.Entry.{Entry}
 use Rattle.seq_object.specs.Sizes.{super_room}
 use Rattle.seq_object.specs.Object.{Contents}
 use Rattle.life_model.specs.Life.{contents_now}
-use Rattle.line_memory.specs.Line.{survivor}
+use Rattle.line_memory.specs.Line.{BankState}
 use Rattle.room_model.specs.MapRoom.{live_layout}
 use Rattle.room_model.specs.Rooms.{StandsFor}
 use Rattle.room_model.specs.Banks.{memory_words}
-use Rattle.room_model.specs.EpochLine.{epoch_line}
+use Rattle.room_model.specs.EpochLine.{epoch_line, loaded_epoch, surviving_epoch}
 use Rattle.incll_var.specs.declared.state.CellState.{CellState}
 use Rattle.incll_var.specs.declared.state.CellState.TheVariants.{Torn, Running as RunningCells, Closing as ClosingCells, Saved}
 use Rattle.incll_var.specs.Cells.{IsCellBank, IsSavedIn}
@@ -85,12 +85,12 @@ pub record IsFreeRoom (z : Sizes) (epoch opened closings : ℕ) (done : Bool) (n
   pub write_backs : (bank_of x).write_backs + lines_unasked x ≤ opened + free_bound z epoch closings done r x
   -- the super room has nothing pending
   pub nothing_pending : r ≡ super_room z → (epoch_line (bank_of x)).pending ≡ []
-  -- and loads the epoch, or the next one where it is done
-  pub epoch_word : r ≡ super_room z → loads x 0 0 ≡ epoch + (if done then 1 else 0)
+  -- and its epoch by load is the epoch, or the next one where it is done
+  pub epoch_word : r ≡ super_room z → loaded_epoch (bank_of x) ≡ epoch + (if done then 1 else 0)
 
--- a survivor of the super room's word is the epoch, or the next one where that is the load
-abbrev pub IsEpochOrNext : ℕ → Room → ℕ → Type 0
-IsEpochOrNext epoch x survivor = (survivor ≡ epoch) ⊎ ((survivor ≡ epoch + 1) × (loads x 0 0 ≡ epoch + 1))
+-- an epoch that is left of the super room's bank is the epoch, or the next one where that is the load
+abbrev pub IsEpochOrNext : ℕ → BankState → ℕ → Type 0
+IsEpochOrNext epoch bank left = (left ≡ epoch) ⊎ ((left ≡ epoch + 1) × (loaded_epoch bank ≡ epoch + 1))
 
 -- a room that was given back in mid-work, while a thread closes or not
 pub record IsDeadRoom (z : Sizes) (epoch opened closings : ℕ) (done closing : Bool) (covered : Contents) (r : ℕ) (x : Room) : Type 0 where
@@ -99,8 +99,8 @@ pub record IsDeadRoom (z : Sizes) (epoch opened closings : ℕ) (done closing : 
   pub state : r < super_room z → IsDeadState epoch closing (state_of x)
   -- write-backs since the opening are few
   pub write_backs : (bank_of x).write_backs ≤ opened + dead_bound z closings r x
-  -- of the super room each survivor is the epoch or the next one
-  pub epoch_word : r ≡ super_room z → (k : ℕ) → IsEpochOrNext epoch x (slice_index (survivor (epoch_line (bank_of x)) k) 0)
+  -- whatever a cut keeps of the super room's line, its epoch is the epoch or the next one
+  pub epoch_word : r ≡ super_room z → (k : ℕ) → IsEpochOrNext epoch (bank_of x) (surviving_epoch (bank_of x) k)
 
 -- IN A LIFE, behind the history h and the checkpoints cs, where so many rooms are done.
 abbrev pub IsFreeHome : Beginning → List Entry → List Checkpoint → ℕ → ℕ → Room → Type 0
