@@ -143,7 +143,7 @@ module _ (b : Beginning) (w : YardState) (h : List Entry) (cs : List Checkpoint)
         command = command;
         next = next which;
         here = is;
-        loads = subst (λ (n : ℕ). LoadsFirstStores (sizes_at b) n k.room (Some command) (loads x) (contents_now (opening_of b) h)) (sym (epoch_same b cs)) f;
+        loads = subst (λ (n : ℕ). LoadsFirstStores (sizes_at b) n k.room (Some command) (loads x) (contents_now (opening_of b) h)) (epoch_same b cs) f;
       })
         where
           next : (Some command ≡ None) ⊎ (Some command ≡ next_command (opening_of b) h i) → next_command (opening_of b) h i ≡ Some command

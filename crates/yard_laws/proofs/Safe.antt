@@ -23,7 +23,7 @@ use Rattle.incll_var.proofs.Survivors.{kept_law, saved_kept, left_alone, loaded_
 use Rattle.life_model.specs.declared.life.Life.{Life}
 use Rattle.life_model.specs.declared.life.Life.TheVariants.{Start, Resume}
 use Rattle.life_model.specs.Life.{covered, point_after, contents_now}
-use Rattle.life_model.specs.Crash.{epoch_after, IsCrashSafe, HasEpoch, HasNextEpoch}
+use Rattle.life_model.specs.Crash.{IsCrashSafe, HasEpoch, HasNextEpoch}
 use Rattle.life_laws.proofs.Safe.{epoch_safe, next_epoch_safe, next_epoch}
 use Rattle.life_laws.proofs.Steps.{mark}
 use Rattle.rooms.specs.declared.room.Room.{Room}
@@ -38,7 +38,7 @@ use Rattle.yard_model.specs.Beginnings.{opening_of, sizes_at, recovery_marks, le
 use Rattle.yard_model.specs.Knows.{stands, is_closing, MayHold}
 use Rattle.yard_model.specs.World.{YardState, lock_of, dead, ViewIs, Home, closes, done_in, done_by, total_of}
 use Rattle.yard_model.specs.Lawful.{Lawful}
-use Rattle.yard_model.specs.Lives.{IsMemoryOf, LifeIsSafeLaw}
+use Rattle.yard_model.specs.Lives.{IsMemoryOf, EpochNowLaw, LifeIsSafeLaw}
 use Rattle.yard_laws.proofs.Lists.{same_at, there, at_inside}
 use Rattle.yard_laws.proofs.Views.{any_there, total_part, total_one}
 use Rattle.yard_laws.proofs.Knowns.{last_same}
@@ -54,10 +54,10 @@ use Rattle.yard_model.specs.Homes.{IsFreeState, IsDeadState, IsEpochOrNext}
 use Rattle.seq_object.specs.Sizes.{thread_room, super_room, room_count}
 
 -- the epoch by the life's marks
-pub epoch_same : (b : Beginning) (cs : List Checkpoint) → epoch_after (opening_of b) (marks_of b cs) ≡ epoch_now b cs
+pub epoch_same : EpochNowLaw
 epoch_same b cs = by b.life
   where
-    by : (life : Life) → b.epoch + length (recovery_marks life ++ lengths_of cs) ≡ (b.epoch + length (recovery_marks life)) + length cs
+    by : (life : Life) → (b.epoch + length (recovery_marks life)) + length cs ≡ b.epoch + length (recovery_marks life ++ lengths_of cs)
     by Start = let f = length_lengths cs in omega (arith, f)
     by Resume = let f = length_lengths cs in omega (arith, f)
 
@@ -193,17 +193,17 @@ module _ (b : Beginning) (w : YardState) (h : List Entry) (cs : List Checkpoint)
 
     pub safe_next : HasNextEpoch (sizes_at b) e memory → IsCrashSafe (opening_of b) h (marks_of b cs) memory
     safe_next next = next_epoch_safe (opening_of b) h (marks_of b cs) memory
-        (subst (λ (n : ℕ). StandsAt live_layout (sizes_at b) n memory (after (sizes_at b) (opening_of b).state (take (covered (marks_of b cs)) h))) (sym (epoch_same b cs)) stands_now)
-        (subst (λ (n : ℕ). StandsAt live_layout (sizes_at b) (n + 1) memory (after (sizes_at b) (opening_of b).state h)) (sym (epoch_same b cs)) stands_next)
-        (subst (λ (n : ℕ). HasNextEpoch (sizes_at b) n memory) (sym (epoch_same b cs)) next)
+        (subst (λ (n : ℕ). StandsAt live_layout (sizes_at b) n memory (after (sizes_at b) (opening_of b).state (take (covered (marks_of b cs)) h))) (epoch_same b cs) stands_now)
+        (subst (λ (n : ℕ). StandsAt live_layout (sizes_at b) (n + 1) memory (after (sizes_at b) (opening_of b).state h)) (epoch_same b cs) stands_next)
+        (subst (λ (n : ℕ). HasNextEpoch (sizes_at b) n memory) (epoch_same b cs) next)
         (mark (opening_of b) h (marks_of b cs) (life_is_legal b w h cs l) (all_may_end b w h cs l stand_all))
 
   -- THE EPOCH WORD
 
   safe_epoch : HasEpoch (sizes_at b) e memory → IsCrashSafe (opening_of b) h (marks_of b cs) memory
   safe_epoch has = epoch_safe (opening_of b) h (marks_of b cs) memory
-      (subst (λ (n : ℕ). StandsAt live_layout (sizes_at b) n memory (after (sizes_at b) (opening_of b).state (take (covered (marks_of b cs)) h))) (sym (epoch_same b cs)) stands_now)
-      (subst (λ (n : ℕ). HasEpoch (sizes_at b) n memory) (sym (epoch_same b cs)) has)
+      (subst (λ (n : ℕ). StandsAt live_layout (sizes_at b) n memory (after (sizes_at b) (opening_of b).state (take (covered (marks_of b cs)) h))) (epoch_same b cs) stands_now)
+      (subst (λ (n : ℕ). HasEpoch (sizes_at b) n memory) (epoch_same b cs) has)
 
   inside : super_room (sizes_at b) < room_count (sizes_at b)
   inside = omega arith

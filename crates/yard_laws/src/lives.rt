@@ -1,7 +1,12 @@
 //! What a lawful world says of its life.
-ghost use Rattle.yard_model.specs.Lives.{LifeIsLegalLaw, LifeIsSafeLaw, LifeIsPresentLaw, LifeClosesOncePerEntryLaw, LifeTicksLittleLaw};
+ghost use Rattle.yard_model.specs.Lives.{EpochNowLaw, LifeIsLegalLaw, LifeIsSafeLaw, LifeIsPresentLaw, LifeClosesOncePerEntryLaw, LifeTicksLittleLaw};
 ghost use Rattle.yard_model.specs.Outcomes.{LifeEndsLaw, FinishedIsOverLaw, OverIsLastLaw, NoneWaitsWithoutTakeLaw};
 ghost use Rattle.yard_model.specs.WriteBacks.{LifeFlushesLittleLaw, FewAreWrittenLaw, MemoryCountsLaw};
+
+/// The epoch that runs, as the yard counts it, is the one behind the life's marks.
+pub fn epoch_now_law()
+    ensures { EpochNowLaw }
+{}
 
 /// The life is legal.
 pub fn legal_law()

@@ -6,13 +6,13 @@ use Rattle.seq_object.specs.declared.history.Entry.{Entry}
 use Rattle.line_memory.specs.Line.{BankState, bank_at}
 use Rattle.life_model.specs.declared.life.Outcome.{Outcome}
 use Rattle.life_model.specs.Life.{IsLegalLife}
-use Rattle.life_model.specs.Crash.{IsCrashSafe}
+use Rattle.life_model.specs.Crash.{epoch_after, IsCrashSafe}
 use Rattle.life_model.specs.Present.{IsPresent, AreAscending}
 use Rattle.rooms.specs.declared.room.Room.{Room}
 use Rattle.yard_model.specs.declared.view.Beginning.{Beginning}
 use Rattle.yard_model.specs.declared.view.Checkpoint.{Checkpoint}
 use Rattle.rooms.specs.Rooms.{bank_of}
-use Rattle.yard_model.specs.Beginnings.{opening_of, sizes_at, marks_of}
+use Rattle.yard_model.specs.Beginnings.{opening_of, sizes_at, marks_of, epoch_now}
 use Rattle.yard_model.specs.World.{YardState, lock_of, dead, Home, all_ticks}
 use Rattle.yard_model.specs.Lawful.{Lawful}
 use Rattle.yard_model.specs.Outcomes.{ShowsEnd}
@@ -29,6 +29,10 @@ pub record NamesDead (b : Beginning) (w : YardState) (held : List ℕ) : Type 0 
   pub ascending : AreAscending held
   pub are_dead : (r : ℕ) → Contains held r → (r < room_count (sizes_at b)) × (lock_of w r ≡ dead)
   pub all : (r : ℕ) → r < room_count (sizes_at b) → lock_of w r ≡ dead → Contains held r
+
+-- the epoch that runs, as the yard counts it by its checkpoints, is the one that the life has behind its marks
+abbrev pub EpochNowLaw : Type 0
+EpochNowLaw = (b : Beginning) (cs : List Checkpoint) → epoch_now b cs ≡ epoch_after (opening_of b) (marks_of b cs)
 
 -- the life is legal
 abbrev pub LifeIsLegalLaw : Type 0
