@@ -1,5 +1,5 @@
 -- The place of a key, as the walk along its bucket finds it.
-use Rattle.std.proofs.Common.{◌≡◌, ℕ, ◌<◌, ◌%◌, sym, ap, ◌∙◌, subst, length, arith}
+use Rattle.std.proofs.Common.{◌≡◌, ℕ, ◌<◌, sym, ap, ◌∙◌, subst, length}
 use Rattle.line_memory.specs.Line.{bank_load}
 use Rattle.room_model.specs.declared.layout.Heads.{Heads}
 use Rattle.room_model.specs.declared.layout.Heads.TheVariants.{OneALine, ThreeALine}

@@ -1,19 +1,20 @@
 //! A map room of sixteen lines, the one room of its map, by hand: commands are carried out, epochs are closed, and the
 //! replies, the numbers of stores and the pairs compared with those that were worked out on paper.
 
-ghost use Rattle.std.specs.Prelude.{◌≡◌, ◌<◌, ◌+◌, [], length, IsTrue, IfOk};
+ghost use Rattle.std.specs.Prelude.{◌≡◌, length, IsTrue};
 ghost use Rattle.seq_object.specs.Sizes.{sizes_of};
 ghost use Rattle.seq_object.specs.Object.{room_of};
 ghost use Rattle.line_memory.specs.Line.{bank_load};
-ghost use Rattle.room_model.specs.Formatted.{formatted};
-ghost use Rattle.incll_var.specs.Cells.{IsRunning, AreSettled};
-ghost use Rattle.locked_map.specs.Tests.{IsIdle, HasFinished};
 ghost use Rattle.room_model.specs.Chains.{HasSameRecords};
+ghost use Rattle.room_model.specs.MapRoom.{live_layout};
+ghost use Rattle.room_model.specs.Formatted.{formatted, first_node};
+ghost use Rattle.incll_var.specs.Cells.{IsCellBank, IsRunning};
+ghost use Rattle.locked_map.specs.Tests.{IsIdle, HasFinished};
 
 use crate::MapRoom;
 use command_room::RunsCommands as _;
+use formatting::format_room;
 use incll_var::{CellBank, CellState, RestoreStep};
-use line_memory::Bank;
 use planned_cells::CellRoom;
 use seq_object::{Command, Entry, Pair, Reply, Settings};
 use std::alloc::{AllocError, Global};
@@ -30,57 +31,26 @@ const SETTINGS: Settings = Settings {
 /// A command, its reply, and how many stores it takes.
 type Row = (Command, Reply, u32);
 
-/// Sixteen lines as a map room is formatted, which it is made sure are settled.
-fn settled_bank(rt: &impl Abort, alloc: Global) -> Result<Bank, AllocError>
-    ensures { IfOk result (λ bank. AreSettled 0 bank.lines) }
+/// The cells of the room of the one shard of formatted memory, saved before the first epoch.
+fn formatted_cells(rt: &impl Abort, alloc: Global) -> CellBank
+    ensures state { result.state ≡ CellState.Saved 0 }
+    ensures cells { IsCellBank result }
+    ensures lines { length result.bank.lines ≡ 16 }
+    ensures loads { HasSameRecords (bank_load result.bank) (formatted (first_node live_layout (sizes_of SETTINGS) 0)) }
 {
-    let mut base = Vec::new(alloc);
-    base.push([0, 9, 0, 0, 0, 0, 0, 0])?;
-    base.extend_from_slice(&[[0; 8]; 15])?;
-    assert!(rt; base.len() == 16);
-    let bank = Bank::of(alloc, base)?;
-    for line in 0..bank.lines() {
-        assert!(rt; bank.pending(line) == 0 && bank.base(line)[6] == 0);
-    }
-    Ok(bank)
-}
-
-/// Whether the loads of a bank are those of a formatted map room.
-fn is_formatted(bank: &Bank) -> bool
-    requires { 0 < length bank.now.lines }
-    ensures { IsTrue result → HasSameRecords (bank_load bank.now) (formatted 9) }
-{
-    for line in 0..bank.lines() {
-        let fresh = if line == 0 { 9 } else { 0 };
-        if bank.load(line, 0) != 0 || bank.load(line, 1) != fresh || bank.load(line, 2) != 0 {
-            return false;
-        }
-    }
-    true
-}
-
-/// The same lines, which it is made sure are as formatted.
-fn formatted_bank(rt: &impl Abort, alloc: Global) -> Result<Bank, AllocError>
-    ensures settled { IfOk result (λ bank. AreSettled 0 bank.lines) }
-    ensures count { IfOk result (λ bank. length bank.lines ≡ 16) }
-    ensures loads { IfOk result (λ bank. HasSameRecords (bank_load bank) (formatted 9)) }
-{
-    let bank = settled_bank(rt, alloc)?;
-    assert!(rt; bank.lines() == 16);
-    assert!(rt; is_formatted(&bank));
-    Ok(bank)
+    let bank = format_room(alloc, SETTINGS.sizes(), 0).expect(rt, "memory");
+    CellBank::clean(alloc, bank, 0).expect(rt, "memory")
 }
 
 /// The empty room, entered in epoch 1.
-fn map_room(rt: &impl Abort, alloc: Global) -> Result<MapRoom, AllocError>
-    ensures state { IfOk result (λ room. room.cells.state ≡ CellState.Running 1) }
-    ensures idle { IfOk result (λ room. IsIdle SETTINGS room) }
+fn map_room(rt: &impl Abort, alloc: Global) -> MapRoom
+    ensures state { result.cells.state ≡ CellState.Running 1 }
+    ensures idle { IsIdle SETTINGS result }
 {
-    let bank = formatted_bank(rt, alloc)?;
-    let cells = CellBank::clean(alloc, bank, 0)?;
+    let cells = formatted_cells(rt, alloc);
     let mut room = MapRoom::of(alloc, cells, SETTINGS, 0);
     room.enter(1);
-    Ok(room)
+    room
 }
 
 /// Whether this is a command of the one room.
@@ -165,7 +135,7 @@ fn close(room: &mut MapRoom, epoch: u32) -> u32
 #[test]
 fn two_epochs(rt: HostRuntime) -> Result<(), Fail> {
     let alloc = rt.alloc();
-    let mut room = map_room(&rt, alloc)?;
+    let mut room = map_room(&rt, alloc);
     let first = [
         (Command::Put(5, 7), Reply::New, 18),
         (Command::Get(5), Reply::Found(7), 0),
@@ -192,7 +162,7 @@ fn two_epochs(rt: HostRuntime) -> Result<(), Fail> {
 #[test]
 fn keys_of_one_bucket(rt: HostRuntime) -> Result<(), Fail> {
     let alloc = rt.alloc();
-    let mut room = map_room(&rt, alloc)?;
+    let mut room = map_room(&rt, alloc);
     let rows = [
         (Command::Put(1, 10), Reply::New, 18),
         (Command::Put(9, 20), Reply::New, 10),
@@ -212,7 +182,7 @@ fn keys_of_one_bucket(rt: HostRuntime) -> Result<(), Fail> {
 
 #[test]
 fn a_full_room(rt: HostRuntime) -> Result<(), Fail> {
-    let mut room = map_room(&rt, rt.alloc())?;
+    let mut room = map_room(&rt, rt.alloc());
     let rows = [
         (Command::Put(0, 1), Reply::New, 18),
         (Command::Put(1, 2), Reply::New, 14),

@@ -1,29 +1,24 @@
 -- What the begin of a command makes of the queue room: a command that the room answers is planned, and one that it does not answer
 -- leaves the room as it was.
-use Rattle.std.proofs.Common.{◌≡◌, ℕ, ◌<◌, Bool, Some, None, List, [], length, sym, ap, ◌∙◌, subst, arith, eq-eqb, if◌then◌else◌}
+use Rattle.std.proofs.Common.{◌≡◌, ℕ, ◌<◌, None, List, [], sym, ap, ◌∙◌, subst, arith}
 use Rattle.seq_object.specs.declared.command.Command.{Command}
 use Rattle.seq_object.specs.declared.command.Command.TheVariants.{Take}
-use Rattle.seq_object.specs.declared.command.Reply.{Reply}
 use Rattle.seq_object.specs.Object.{Contents, room_of, reply_to, contents_after, with_items, rest_of}
 use Rattle.line_memory.specs.Line.{bank_load}
-use Rattle.room_model.specs.declared.write.PlannedStore.{PlannedStore}
-use Rattle.room_model.specs.declared.write.Write.{Write}
 use Rattle.room_model.specs.Chains.{RoomWords}
 use Rattle.room_model.specs.MapRoom.{live_layout}
-use Rattle.room_model.specs.Writes.{stores_behind, command_stores, writes_of, answer_of}
+use Rattle.room_model.specs.Writes.{writes_of, answer_of}
 use Rattle.room_model.specs.Walks.{contents_of, IsRoom}
 use Rattle.room_laws.proofs.AllRows.{command_reply}
 use Rattle.room_laws.proofs.MapLaws.{layouts}
-use Rattle.incll_var.specs.Cells.{IsRunning, epoch_of}
+use Rattle.incll_var.specs.Cells.{IsRunning}
 use Rattle.incll_var.specs.Plans.{PlanState}
 use Rattle.line_alloc.specs.Headers.{planned}
-use Rattle.command_room.specs.Room.{HasPlanned, words_of, sizes_in, contents_in, with_plan, CommandRoomState}
+use Rattle.command_room.specs.Room.{words_of, sizes_in, contents_in, CommandRoomState}
 use Rattle.command_room.proofs.Words.{laid}
-use Rattle.command_room.proofs.Plannings.{planning}
 use Rattle.locked_queue.specs.Plans.{MayPlan}
 use Rattle.locked_queue.specs.Queue.{IsQueue, items_in}
 use Rattle.locked_queue.proofs.Commands.{none_written, only_takes_wait}
-use Rattle.command_room.proofs.Plannings.{idle_plan}
 use Rattle.locked_queue.proofs.Queues.{ready_words, bounds_law}
 
 -- a queue room that may begin this command

@@ -9,15 +9,12 @@ use Rattle.room_model.specs.Chains.{RoomWords}
 use Rattle.room_model.specs.MapRoom.{live_layout}
 use Rattle.room_model.specs.QueueRoom.{IsQueueRoom}
 use Rattle.room_model.specs.Rooms.{StandsFor}
-use Rattle.room_model.specs.Walks.{items_of}
 use Rattle.room_laws.specs.Stocks.{QueueBounds, HeaderSays}
 use Rattle.room_laws.proofs.Standing.{queue_of}
-use Rattle.room_laws.proofs.QueueLaws.{queue_items_law}
 use Rattle.room_laws.proofs.StockLaws.{queue_bounds_law, queue_header_law}
 use Rattle.incll_var.specs.Cells.{IsRunning}
 use Rattle.command_room.specs.Room.{words_of, sizes_in, contents_in, CommandRoomState}
 use Rattle.locked_queue.specs.Queue.{IsQueue, items_in}
-use Rattle.planned_cells.specs.Planned.{IsAtRest}
 use Rattle.planned_cells.proofs.Rests.{rest_words}
 use Rattle.command_room.proofs.Plannings.{ready_rests}
 use Rattle.locked_queue.specs.Laws.{ItemsLaw, FullLaw}

@@ -5,14 +5,16 @@ ghost use Rattle.std.specs.Prelude.{◌≡◌, ◌<◌, ◌+◌, length, IsTrue}
 ghost use Rattle.seq_object.specs.Sizes.{sizes_of};
 ghost use Rattle.seq_object.specs.Object.{room_of};
 ghost use Rattle.line_memory.specs.Line.{bank_load};
-ghost use Rattle.room_model.specs.Formatted.{formatted};
-ghost use Rattle.incll_var.specs.Cells.{IsRunning, MayRestore, AreSettled, epoch_of};
+ghost use Rattle.room_model.specs.Chains.{HasSameRecords};
+ghost use Rattle.room_model.specs.MapRoom.{live_layout};
+ghost use Rattle.room_model.specs.Formatted.{formatted, first_node};
+ghost use Rattle.incll_var.specs.Cells.{IsCellBank, IsRunning, MayRestore, AreSettled, epoch_of};
 ghost use Rattle.command_room.specs.Room.{memory_words_of};
 ghost use Rattle.locked_queue.specs.Tests.{IsIdle, HasFinished, IsQueueOf};
-ghost use Rattle.room_model.specs.Chains.{HasSameRecords};
 
 use crate::QueueRoom;
 use command_room::RunsCommands as _;
+use formatting::format_room;
 use incll_var::{CellBank, CellState, RestoreStep};
 use line_memory::Bank;
 use planned_cells::CellRoom;
@@ -39,35 +41,15 @@ fn settled(rt: &impl Abort, bank: &Bank, epoch: u32)
     }
 }
 
-/// Whether the loads of a bank are those of a formatted queue room.
-fn is_formatted(bank: &Bank) -> bool
-    requires { 0 < length bank.now.lines }
-    ensures { IsTrue result → HasSameRecords (bank_load bank.now) (formatted 2) }
+/// The cells of the queue room of formatted memory, saved before the first epoch.
+fn formatted_cells(rt: &impl Abort, alloc: Global) -> CellBank
+    ensures state { result.state ≡ CellState.Saved 0 }
+    ensures cells { IsCellBank result }
+    ensures lines { length result.bank.lines ≡ 16 }
+    ensures loads { HasSameRecords (bank_load result.bank) (formatted (first_node live_layout (sizes_of SETTINGS) 1)) }
 {
-    for line in 0..bank.lines() {
-        let fresh = if line == 0 { 2 } else { 0 };
-        if bank.load(line, 0) != 0 || bank.load(line, 1) != fresh || bank.load(line, 2) != 0 {
-            return false;
-        }
-    }
-    true
-}
-
-/// Sixteen lines as a queue room is formatted, which it is made sure they are.
-fn formatted_bank(rt: &impl Abort, alloc: Global) -> Bank
-    ensures settled { AreSettled 0 result.lines }
-    ensures count { length result.lines ≡ 16 }
-    ensures loads { HasSameRecords (bank_load result) (formatted 2) }
-{
-    let mut base = Vec::new(alloc);
-    base.push([0, 2, 0, 0, 0, 0, 0, 0]).expect(rt, "memory");
-    base.extend_from_slice(&[[0; 8]; 15]).expect(rt, "memory");
-    assert!(rt; base.len() == 16);
-    let bank = Bank::of(alloc, base).expect(rt, "memory");
-    settled(rt, &bank, 0);
-    assert!(rt; bank.lines() == 16);
-    assert!(rt; is_formatted(&bank));
-    bank
+    let bank = format_room(alloc, SETTINGS.sizes(), 1).expect(rt, "memory");
+    CellBank::clean(alloc, bank, 0).expect(rt, "memory")
 }
 
 /// The empty queue, entered in epoch 1.
@@ -75,8 +57,7 @@ fn queue_room(rt: &impl Abort, alloc: Global) -> QueueRoom
     ensures state { result.cells.state ≡ CellState.Running 1 }
     ensures idle { IsIdle SETTINGS result }
 {
-    let bank = formatted_bank(rt, alloc);
-    let cells = CellBank::clean(alloc, bank, 0).expect(rt, "memory");
+    let cells = formatted_cells(rt, alloc);
     let mut room = QueueRoom::of(alloc, cells, SETTINGS);
     room.enter(1);
     room

@@ -1,4 +1,4 @@
-use Rattle.std.proofs.Common.{◌≡◌, ◌≢◌, ℕ, ◌<◌, ◌≤◌, ◌^◌, ◌-◌, arith, sym, ap, subst, ◌∙◌, length}
+use Rattle.std.proofs.Common.{◌≡◌, ◌≢◌, ℕ, ◌<◌, ◌-◌, arith, sym, ap, subst, ◌∙◌, length}
 use Rattle.line_memory.specs.Line.{bank_load}
 use Rattle.room_walks.proofs.Walks.{HasMet, met, stopped}
 use Rattle.locked_map.proofs.Finding.{IsFinding, IsFound, at_key, further, in_room, at_stop}

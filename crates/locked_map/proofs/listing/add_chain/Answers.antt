@@ -1,4 +1,4 @@
-use Rattle.std.proofs.Common.{◌≡◌, ℕ, ◌-◌, arith, sym, ap, ◌∙◌, subst, length}
+use Rattle.std.proofs.Common.{◌≡◌, ℕ, ◌-◌, sym, ap, ◌∙◌, subst, length}
 use Rattle.std.specs.FinMap.{from_entries, insert}
 use Rattle.line_memory.specs.Line.{bank_load}
 use Rattle.seq_object.specs.Object.{Pairs}

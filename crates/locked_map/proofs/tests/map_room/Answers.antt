@@ -1,5 +1,10 @@
-use Rattle.locked_map.proofs.TestRooms.{first_may_be}
+use Rattle.std.proofs.Common.{arith, sym, subst}
+use Rattle.incll_var.specs.Cells.{IsSaved}
+use Rattle.command_room.proofs.FormattedRooms.{formatted_may}
 use Rattle.locked_map.proofs.tests.map_room.Goals as goal
 
 pub of-room-requires-clause-cells : goal.of-room-requires-clause-cells
-of-room-requires-clause-cells g c = first_may_be c.in_ok-cells.cells c.in_ok-bank.bank c.in_ok-cells.ensures.is c.in_ok-cells.ensures.cells c.in_ok-bank.ensures.count c.in_ok-bank.ensures.loads
+of-room-requires-clause-cells g c =
+    formatted_may (record { threads = 1; shards = 1; lines = 16; every = 1 }) 0 c.formatted_cells-cells.result
+    (record { some_threads = omega arith; few_threads = omega arith; some_shards = omega arith; few_shards = omega arith; some_lines = omega arith; few_lines = omega arith })
+    (omega arith) c.formatted_cells-cells.ensures.cells c.formatted_cells-cells.ensures.lines (subst IsSaved (sym c.formatted_cells-cells.ensures.state) tt) c.formatted_cells-cells.ensures.loads

@@ -1,10 +1,8 @@
 use Rattle.std.proofs.Common.{sym, subst}
-use Rattle.line_memory.specs.Line.{bank_load}
 use Rattle.incll_var.specs.Cells.{IsSaved}
 use Rattle.command_room.specs.Room.{memory_words_of, CommandRoomState}
 use Rattle.locked_queue.specs.Tests.{IsQueueOf}
 use Rattle.locked_queue.proofs.TestRooms.{entered_holds}
-use Rattle.room_model.specs.Chains.{HasSameRecords}
 use Rattle.locked_queue.proofs.tests.next_epoch.Goals as goal
 
 pub returns-clause-held : goal.returns-clause-held

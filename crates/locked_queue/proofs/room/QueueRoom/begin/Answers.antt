@@ -11,7 +11,7 @@ use Rattle.command_room.specs.Room.{CommandRoomState, contents_in, with_plan}
 use Rattle.planned_cells.specs.Planned.{no_plan}
 use Rattle.locked_queue.specs.Plans.{MayPlan}
 use Rattle.locked_queue.specs.Queue.{IsQueue}
-use Rattle.locked_queue.proofs.Begins.{MayBegin, Waits, may_plan, waits_law}
+use Rattle.locked_queue.proofs.Begins.{Waits, may_plan, waits_law}
 use Rattle.locked_queue.proofs.room.QueueRoom.begin.Goals as goal
 
 -- the cells and the settings that are read are the room's

@@ -1,7 +1,0 @@
-use Rattle.std.proofs.Common.{◌≡◌, ◌<◌, ℕ, length}
-use Rattle.line_memory.specs.Line.{line_at}
-use Rattle.incll_var.specs.Cells.{IsSettled}
-use Rattle.locked_map.proofs.tests.settled_bank.Given as goal
-
-abbrev pub invariant-loop-line : goal.invariant-loop-line
-invariant-loop-line g l = ((j : ℕ) → j < l.line → IsSettled 0 (line_at l.bank.lines j)) × (l.line-end ≡ length l.bank.lines)
