@@ -1,23 +1,16 @@
 -- The checks of an image, room by room.
-use Rattle.std.proofs.Common.{◌≡◌, ℕ, ◌+◌, ◌-◌, ◌<◌, ◌≤◌, ◌≢◌, Bool, Option, Some, None, List, [], ◌∷◌, ◌++◌, map, length, append_assoc, arith, refl, ap, sym, ◌∙◌, subst, inl, inr, if◌then◌else◌}
+use Rattle.std.proofs.Common.{◌≡◌, ℕ, ◌+◌, ◌<◌, ◌≤◌, Bool, Option, Some, None, arith, refl, ap, sym, ◌∙◌, inl, inr, if◌then◌else◌}
 use Rattle.std.proofs.lemmas.Bool.Decides.{eqb_tells}
-use Rattle.std.proofs.lemmas.List.{append-nil}
 use Rattle.std.specs.FinMap.{get, empty, get-empty}
 use Rattle.std.specs.Ordering.{nat_cmp}
 use Rattle.seq_object.specs.Object.{Pairs, shard_of}
-use Rattle.room_model.specs.Chains.{RoomWords, IsChain, times}
 use Rattle.room_model.specs.MapRoom.{Layout}
 use Rattle.room_model.specs.Image.{ImageRooms as Rooms, recovered_room}
-use Rattle.room_model.specs.Walks.{map_of, items_of}
-use Rattle.room_laws.proofs.Lists.{times-here}
-use Rattle.room_laws.proofs.Queues.{stock_of_queue}
-use Rattle.room_laws.proofs.Stock.{stock_size, held_node}
+use Rattle.room_model.specs.Walks.{map_of}
 use Rattle.power_cut.specs.declared.fault.ImageFault.{ImageFault}
 use Rattle.image_check.specs.declared.room_fault.RoomFault.{RoomFault}
-use Rattle.image_check.specs.QueueFaults.{queue_fault}
 use Rattle.image_check.specs.ImageFaults.{first_below, with_room, fault_in, map_room_fault}
 use Rattle.image_check.specs.Keyed.{HasShardPairs}
-use Rattle.image_check.proofs.QueueChecks.{queue_sound_law}
 use Rattle.seq_object.specs.declared.sizes.Sizes.{Sizes}
 
 -- a room's fault, where it has one, is the image's

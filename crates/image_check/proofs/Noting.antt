@@ -1,5 +1,5 @@
 -- A line of a bucket's chain that is refused, or is met and noted.
-use Rattle.std.proofs.Common.{◌≡◌, ℕ, ◌+◌, ◌<◌, ◌≤◌, ◌==◌, ◌&&◌, Bool, true, false, cond, Option, Some, None, is_none, List, ◌∷◌, length, set, get_or, refl, ap, sym, ◌∙◌, subst, inl, inr, if◌then◌else◌}
+use Rattle.std.proofs.Common.{◌≡◌, ℕ, ◌==◌, ◌&&◌, Bool, true, false, cond, Option, Some, None, is_none, List, ◌∷◌, refl, ap, sym, ◌∙◌, subst, inl, inr, if◌then◌else◌}
 use Rattle.std.proofs.lemmas.Bool.Decides.{eqb_tells}
 use Rattle.std.specs.FinMap.{get, insert}
 use Rattle.seq_object.specs.Object.{Pairs, shard_of}
@@ -11,9 +11,9 @@ use Rattle.image_check.specs.declared.walking.Met.{Met}
 use Rattle.image_check.specs.Meeting.{is_new}
 use Rattle.image_check.specs.MapFaults.{is_placed, is_new_key, may_join}
 use Rattle.image_check.specs.Keyed.{IsKeyed, IsNoted, HasNoted}
+use Rattle.image_check.specs.Marks.{HasMarksOf}
 use Rattle.image_check.proofs.QueueChecks.{both}
 use Rattle.image_check.proofs.Walks.{HasEnded}
-use Rattle.image_check.proofs.Marking.{is_fresh_line, marked_more}
 use Rattle.seq_object.specs.declared.sizes.Sizes.{Sizes}
 
 pub noted_none : (r : RoomWords) (z : Sizes) (shard : ℕ) (others : Pairs) (marks : List Bool) (pairs : Pairs) (o : Option (List ℕ)) → o ≡ None → HasNoted r z shard others None marks pairs o
@@ -64,16 +64,15 @@ keyed_more r z shard b x key value others pairs pairs' met is_key is_value place
     ]
 
 -- a line that is met and noted
-pub note_line : (first : ℕ) (r : RoomWords) (z : Sizes) (shard b : ℕ) (met : List ℕ) (marks : List Bool) (now : Met) (x key value : ℕ) (others pairs pairs' : Pairs) (new : Bool) → first ≤ x → x < r 0 1 → x < length marks → get_or marks x false ≡ false
-    → key ≡ r x 0 → value ≡ r x 1 → true ≡ is_placed z shard b key → new ≡ is_none (get pairs key) → new ≡ true → pairs' ≡ insert pairs key value → IsNoted r z shard others marks now pairs met
-    → (may_join first r z shard b met x ≡ true) × IsNoted r z shard others (set marks x true) (record { count = now.count + 1; latest = x }) pairs' (x ∷ met)
-note_line first r z shard b met marks now x key value others pairs pairs' new low high within unmarked is_key is_value placed tells is_new_one put noted =
-    let fresh : is_new first (r 0 1) met x ≡ true = is_fresh_line first (r 0 1) met marks now x noted.marked low high within unmarked in
+pub note_line : (first : ℕ) (r : RoomWords) (z : Sizes) (shard b : ℕ) (met : List ℕ) (marks marks' : List Bool) (now now' : Met) (x key value : ℕ) (others pairs pairs' : Pairs) (new : Bool) → is_new first (r 0 1) met x ≡ true
+    → HasMarksOf marks' now' (x ∷ met) → key ≡ r x 0 → value ≡ r x 1 → true ≡ is_placed z shard b key → new ≡ is_none (get pairs key) → new ≡ true → pairs' ≡ insert pairs key value → IsNoted r z shard others marks now pairs met
+    → (may_join first r z shard b met x ≡ true) × IsNoted r z shard others marks' now' pairs' (x ∷ met)
+note_line first r z shard b met marks marks' now now' x key value others pairs pairs' new fresh marked is_key is_value placed tells is_new_one put noted =
     let no : is_none (found r key met) ≡ true = ap is_none (sym (key_of r z shard b key others pairs met placed noted.keyed)) ∙ sym tells ∙ is_new_one in
     let new_key : is_new_key r z shard b met key ≡ true = ap (λ (t : Bool). t && is_none (found r key met)) (sym placed) ∙ no in (
       ap (λ (t : Bool). t && is_new_key r z shard b met (r x 0)) fresh ∙ subst (λ (k : ℕ). is_new_key r z shard b met k ≡ true) is_key new_key,
       record {
-        marked = marked_more met marks now x within noted.marked;
+        marked = marked;
         keyed = keyed_more r z shard b x key value others pairs pairs' met is_key is_value placed put noted.keyed;
       },
     )

@@ -1,13 +1,11 @@
 -- A room of an image as code has it, and the words that its cells recover to.
-use Rattle.std.specs.Prelude.{◌≡◌, ℕ, List, [], length, slice_index, slice_index_or}
-use Rattle.room_model.specs.Cell.{triple_of}
+use Rattle.std.specs.Prelude.{◌≡◌, length}
 use Rattle.room_model.specs.Chains.{RoomWords}
 use Rattle.room_model.specs.MapRoom.{Layout, layout_of}
 use Rattle.room_model.specs.Image.{ImageRooms as Rooms, epoch_at, triples_at}
 use Rattle.power_cut.specs.Image.{lists_of, AreWhole}
 use Rattle.image_check.specs.declared.cells.Cells.{Cells}
 use Rattle.image_check.specs.declared.view.View.{View}
-use Rattle.seq_object.specs.declared.sizes.Sizes.{Sizes}
 
 -- the words of a room of an image
 abbrev pub words_of : Cells → RoomWords

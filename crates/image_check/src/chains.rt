@@ -11,11 +11,19 @@ ghost use Rattle.image_check.specs.MapFaults.{is_placed, may_join, met_chains};
 ghost use Rattle.image_check.specs.Keyed.{pairs_in, IsNoted, HasNoted};
 
 use crate::cells::Cells;
-use crate::walking::{Met, Nodes};
+use crate::walking::{Met, Nodes, meet};
 use room_model::{BUCKETS, Heads};
+use room_walks::{ReadsWords, Walk};
 use seq_object::Sizes;
 use std::alloc::AllocError;
 use std::collections::BTreeMap;
+
+/// The words of a node that have its key and its value, and name the next node.
+const KEY: u32 = 0;
+
+const VALUE: u32 = 1;
+
+const NEXT: u32 = 2;
 
 /// The chain of a bucket of a shard, and the line that it starts with, or 0.
 #[derive(Clone, Copy)]
@@ -61,37 +69,26 @@ fn walk_bucket(
     ensures few { IfOk result (λ now. IfSome now (λ some. some.count ≤ met.count + cells.entry.sizes.lines)) }
     ensures walked { IfOk result (λ now. (others : Pairs) (before : List ℕ) → IsNoted (words_of cells.entry) cells.entry.sizes chain.shard others marks.old met (pairs_in pairs.old.entries) before → HasNoted (words_of cells.entry) cells.entry.sizes chain.shard others now marks.new (pairs_in pairs.new.entries) (met_from (λ x. words_of cells.entry x 2) (may_join nodes.first (words_of cells.entry) cells.entry.sizes chain.shard chain.bucket) before cells.entry.sizes.lines chain.start)) }
 {
-    let mut line = chain.start;
+    let mut walk = Walk::from(chain.start, NEXT, cells.sizes.lines);
     let mut now = met;
-    let mut left = cells.sizes.lines;
-    while left > 0 {
-        if line == 0 {
-            return Ok(Some(now));
-        }
-        if line < nodes.first || nodes.fresh <= line {
+    while let Some(line) = walk.next(&cells) {
+        if !meet(nodes, line, marks) {
             return Ok(None);
         }
-        let index = line as usize;
-        if marks[index] {
-            return Ok(None);
-        }
-        let key = cells.word(index, 0);
+        let key = cells.read(line, KEY);
         if !is_placed(cells.sizes, chain, key) {
             return Ok(None);
         }
-        let is_new = keep_pair(pairs, key, cells.word(index, 1))?;
+        let is_new = keep_pair(pairs, key, cells.read(line, VALUE))?;
         if !is_new {
             return Ok(None);
         }
-        marks[index] = true;
         now = Met {
             count: now.count + 1,
             latest: line,
         };
-        line = cells.word(index, 2);
-        left -= 1;
     }
-    Ok(if line == 0 { Some(now) } else { None })
+    Ok(if walk.line == 0 { Some(now) } else { None })
 }
 
 /// Walks over the chains of all buckets, with clear marks and no pair of this shard yet. `None` where a line may not be met.

@@ -4,10 +4,10 @@
 //! ahead of it, by room and line; then the rooms one by one, the map rooms first and then the queue room, each by its header,
 //! its chains, the queue's last line, its free lines, its counts. It keeps nothing of the image.
 //!
-//! Each tag is looked at once, and each list of lines is walked once, the queue's chain once more for its items. A walk marks
-//! each line that it meets and never leaves the lines that were given out, so it ends on hostile words too. The pairs of all
-//! shards stand in one tree, which tells keys that were met before and lists the pairs in order at the end. So a check takes
-//! n log n steps in the lines of the image.
+//! Each tag is looked at once, and each list of lines is walked once, the queue's chain once more for its items. Walks are
+//! those of `room_walks`, beside marks of the lines met: one is refused at a line that was not given out or was met before, so
+//! it ends on hostile words too. The pairs of all shards stand in one tree, which tells keys that were met before and lists
+//! the pairs in order at the end. So a check takes n log n steps in the lines of the image.
 //!
 //! A contract sees an image as its sizes and its rooms. The first fault is a function of these: of one room by walks whose
 //! lines are a list (`queue_fault`, `map_fault`), of all by the list of checks in order (`image_fault`). Where map rooms have

@@ -1,4 +1,4 @@
-use Rattle.std.proofs.Common.{◌≡◌, ℕ, refl, subst}
+use Rattle.std.proofs.Common.{◌≡◌, ℕ, subst}
 use Rattle.room_model.specs.Image.{recovered_room}
 use Rattle.room_model.specs.Walks.{items_of}
 use Rattle.image_check.specs.Cells.{rooms_of, layout_of_view}
