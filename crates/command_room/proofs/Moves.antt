@@ -3,7 +3,6 @@ use Rattle.std.proofs.Common.{◌≡◌, ℕ, Option, Some, None, List, [], leng
 use Rattle.line_memory.specs.Line.{BankState}
 use Rattle.room_model.specs.declared.write.PlannedStore.{PlannedStore}
 use Rattle.room_model.specs.Chains.{RoomWords, HasSameRecords}
-use Rattle.room_model.specs.Walks.{contents_of, IsRoom}
 use Rattle.room_model.specs.Banks.{memory_words}
 use Rattle.room_model.specs.Writes.{stored_in}
 use Rattle.incll_var.specs.declared.state.CellState.{CellState}

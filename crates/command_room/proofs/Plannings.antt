@@ -1,16 +1,13 @@
 -- What a room may plan, and that planned writes may be stored.
-use Rattle.std.proofs.Common.{◌≡◌, Bool, Some, None, [], ◌∷◌, ◌++◌, refl, sym, ap, ◌∙◌, eq-eqb, if◌then◌else◌}
-use Rattle.seq_object.specs.declared.command.Command.{Command}
-use Rattle.seq_object.specs.declared.command.Reply.{Reply}
-use Rattle.seq_object.specs.Object.{room_of}
+use Rattle.std.proofs.Common.{◌≡◌, None, [], ◌∷◌, ◌++◌, refl, sym, ap}
 use Rattle.line_memory.specs.Line.{bank_load}
 use Rattle.room_model.specs.MapRoom.{live_layout}
-use Rattle.room_model.specs.Writes.{write_stores, writes_of, answer_of, stores_behind}
+use Rattle.room_model.specs.Writes.{write_stores}
 use Rattle.room_laws.proofs.OneContents.{is_room}
 use Rattle.incll_var.specs.Cells.{IsRunning, epoch_of}
-use Rattle.incll_var.specs.Plans.{PlanState, cleared}
+use Rattle.incll_var.specs.Plans.{cleared}
 use Rattle.incll_var.proofs.Planned.{planned_more}
-use Rattle.command_room.specs.Room.{CommandRoomState, IsCommandRoom, HasPlanned, with_plan, words_of, sizes_in}
+use Rattle.command_room.specs.Room.{CommandRoomState, IsCommandRoom, words_of, sizes_in}
 use Rattle.command_room.specs.Laws.{PlanningLaw, WritesPlannedLaw, WholeLaw}
 use Rattle.planned_cells.proofs.Loads.{same_words}
 use Rattle.command_room.proofs.Moves.{moved_law, none_left}

@@ -1,5 +1,6 @@
 //! The queue room of a memory with sixteen lines a room, by hand: an item is put at the back of the empty queue, and the
-//! epoch is closed. The command's writes, its stores and the words at the end were worked out on paper.
+//! epoch is closed; or its plan is put back. The command's writes, its stores, the loads and the words at the end were worked
+//! out on paper.
 
 ghost use Rattle.std.specs.Prelude.{◌≡◌, ◌<◌, true, [], length, None, Some, IsTrue, OnOk};
 ghost use Rattle.seq_object.specs.Sizes.{sizes_of};
@@ -192,4 +193,27 @@ fn an_item_that_is_saved(rt: HostRuntime) {
     assert!(rt; bank.lines() == 16);
     assert_eq!(rt; bank.base(2), [40, 0, 0, 0, 0, 0, 1, 0]);
     assert_eq!(rt; bank.base(0), [0, 3, 1, 0, 2, 0, 1, 0]);
+}
+
+#[test]
+fn a_plan_that_is_put_back(rt: HostRuntime) {
+    let mut room = queue_room(&rt, rt.alloc());
+    let mut plan = room.take_plan();
+    plan_first(&room, 40, &mut plan).expect(&rt, "memory");
+    assert!(rt; plan.left() == 18);
+    room.put_back(plan);
+    assert!(rt; room.is_idle());
+    assert_eq!(rt; room.left(), 0);
+    assert_eq!(rt; record(&rt, &room, 0), [0, 2, 0]);
+}
+
+#[test]
+fn a_room_told_by_its_calls(rt: HostRuntime) {
+    let room = room_of_one(&rt, rt.alloc(), 0);
+    assert!(rt; room.settings() == SETTINGS);
+    assert!(rt; room.bank().lines() == 16);
+    assert_eq!(rt; room.bank().pending(0), 6);
+    assert_eq!(rt; room.load(0, 1), 3);
+    assert_eq!(rt; room.load(0, 4), 2);
+    assert_eq!(rt; room.load(2, 0), 40);
 }
