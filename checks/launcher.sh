@@ -1,9 +1,9 @@
 #!/usr/bin/env bash
-# Tries the script `respct` at the top, with a stand-in for the toolchain that proves nothing and builds a program that echoes. Takes a second or two.
+# Tries the script `respct` at the top, with a stand-in for the toolchain that proves nothing and builds a program that echoes. Takes a few seconds.
 set -eu
 top=$(CDPATH='' cd -- "$(dirname -- "$0")/.." && pwd)
 room=$(mktemp -d)
-trap 'find "$room" -delete' EXIT
+trap 'chmod -R u+w "$room" && find "$room" -delete' EXIT
 cd "$room"
 usage='usage: respct start, resume or check with --image NAME, or respct drill N'
 
@@ -13,14 +13,15 @@ fail() {
 }
 
 # A repository with the crates of the true one, each with one file, and beside it a crate that the program does not use.
-mkdir here bin
+mkdir here bin free
 cp "$top/respct" "$top/crates.txt" here
 for name in $(sed -n 's/^\([a-z_]*\)[ :].*/\1/p' here/crates.txt) spare; do
     mkdir -p "here/crates/$name/src"
     echo one >"here/crates/$name/src/lib.rt"
 done
 
-# The stand-in: it has a stamp of what it built, by contents, and notes each call.
+# The stand-in: it has a stamp of what it built, by contents, notes each call, and lets one call at a time into a crate's folder. Where WAITED
+# is set, a build goes on once another call waits for it.
 cat >bin/rt <<'STANDIN'
 #!/usr/bin/env bash
 set -eu
@@ -30,6 +31,12 @@ if [ "$1" = try ]; then
     echo "tried $*" && exec cat
 fi
 cat >/dev/null
+exec 9<.
+if ! flock -n 9; then
+    echo "rt: waiting for another rt to finish in $PWD" >&2
+    echo waits >>"$RT_CALLS"
+    flock 9
+fi
 if grep -q broken ../*/src/*; then
     echo 'src/lib.rt:1:1: error: no proof' && exit 1
 fi
@@ -37,6 +44,10 @@ mkdir -p out
 if [ "$(cat ../byte_ports/src/* src/* | cksum)" = "$(cat out/respct.stamp 2>&1)" ]; then
     echo 'rt: nothing has changed since the last proved build, by out/respct.stamp, so nothing is checked now' >&2
 else
+    echo builds >>"$RT_CALLS"
+    if [ -n "${WAITED-}" ]; then
+        timeout 10 sh -c 'until grep -q waits "$RT_CALLS"; do sleep 0.02; done'
+    fi
     for name in byte_ports line_memory respct; do
         echo "rt: chose --jobs 2 for $name" >&2
     done
@@ -51,13 +62,23 @@ echo 'usage: respct' >&2
 exit 1
 STANDIN
 chmod +x bin/rt
-export PATH="$room/bin:$PATH" RT_CALLS="$room/calls" TMPDIR="$room"
+export PATH="$room/bin:$PATH" RT_CALLS="$room/calls" TMPDIR="$room/free"
+
+# What another user needs of this folder, to run the script.
+: >calls
+chmod a+x . bin bin/rt
+chmod a+r bin/rt
+chmod a+rwx free
+chmod a+rw calls
+
+# The words that another user runs by, and none for who runs this check.
+runner=()
 
 # Runs the script with words, keeps what it writes, and gives its status.
 run() {
     local status=0
     : >calls
-    echo text | "here/respct" "$@" >out 2>err || status=$?
+    echo text | "${runner[@]}" here/respct "$@" >out 2>err || status=$?
     echo "$status"
 }
 
@@ -104,6 +125,53 @@ status=$(run start)
 echo two >here/crates/byte_ports/src/lib.rt
 status=$(run --unproved start --image=x)
 [ "$status" = 0 ] && [ "$(cat out)" = 'tried start --image=x'$'\n'text ] && [ "$(cat calls)" = 'try -- start --image=x' ] || fail "unproved: $status"
+
+# Two runs at once, before anything is built: the first builds, and the second waits for it and runs what it built.
+find moved/crates/respct/out -delete
+: >calls
+export WAITED=yes
+for name in first second; do
+    {
+        status=0
+        echo "text of the $name" | here/respct start --image "$name" >"$name.out" 2>"$name.err" || status=$?
+        echo "$status" >"$name.status"
+    } &
+    timeout 10 sh -c 'until grep -q builds calls; do sleep 0.02; done' || fail 'the first of two runs does not build'
+done
+wait
+unset WAITED
+for name in first second; do
+    [ "$(cat "$name.status")" = 4 ] || fail "the $name of two runs at once: status $(cat "$name.status")"
+    [ "$(cat "$name.out")" = "$room start --image $name"$'\n'"text of the $name" ] || fail "the $name of two runs at once: $(cat "$name.out")"
+done
+[ "$(grep -c '^built' calls)" = 1 ] || fail 'two runs at once do not build once'
+grep -q 'proving respct, ' first.err || fail "the first of two runs at once: $(cat first.err)"
+said="respct: waiting for another rt to finish in $room/here/crates/respct"
+[ "$(grep -v 'takes some .* minutes' second.err)" = "$said" ] || fail "the second of two runs at once: $(cat second.err)"
+
+# A checkout that may only be read. Root, who may write anywhere, is nobody there.
+if [ "$(id -u)" = 0 ]; then
+    runner=(setpriv --reuid=65534 --regid=65534 --clear-groups)
+fi
+chmod -R a+rX,a-w moved
+if "${runner[@]}" test -x "$room/bin/rt"; then
+    ran read_only 0
+    [ ! -s err ] || fail "a program that is current in a read-only checkout is no news: $(cat err)"
+    chmod -R u+w moved
+    find moved/crates/respct/out -delete
+    chmod -R a-w moved
+    status=$(run start)
+    said="respct: the program is not built, and it cannot be built here, since $room/here/crates/respct may not be written to"
+    [ "$status" = 70 ] && [ ! -s out ] && [ "$(cat err)" = "$said" ] && [ ! -s calls ] || fail "nothing built, read-only: $status, $(cat err)"
+    runner=()
+    chmod -R u+w moved
+    ran writable_again 1
+else
+    echo 'launcher: not tried in a read-only checkout, since root may write anywhere, and nobody may not come here' >&2
+    runner=()
+    chmod -R u+w moved
+fi
+
 PATH=/usr/bin:/bin
 if ! command -v rt >/dev/null; then
     ran with_no_toolchain 0

@@ -1,0 +1,91 @@
+#!/usr/bin/env bash
+# Tries each status that a run of the built program reaches, against docs/formats.md and README.md: the exit code, all of standard output,
+# all of standard error, and whether an image is left. A case that is right prints nothing. It takes a second at most.
+#
+#     checks/statuses.sh crates/respct/out/respct
+#
+# 11 is not tried, since it needs memory that is refused; 3, 5, 6 and 10 do not come yet. Each case holds for root too, who may open any
+# file: so the source that cannot be read is closed, or a folder, and the place for the image is in a folder that is not there.
+set -eu
+top=$(CDPATH='' cd -- "$(dirname -- "$0")/.." && pwd)
+program=$(CDPATH='' cd -- "$(dirname -- "$1")" && pwd)/$(basename -- "$1")
+room=$(mktemp -d)
+trap 'find "$room" -delete' EXIT
+cd "$room"
+mkdir folder
+is_right=yes
+
+# The block of this file that begins with this line: the one with this number among them.
+block() {
+    awk -v head="$2" -v wanted="$3" '
+        /^```/ { inside = !inside; first = inside; if (!inside) writes = 0; next }
+        first { first = 0; if ($0 == head) writes = ++found == wanted }
+        writes { print }
+    ' "$top/$1"
+}
+
+# The line on standard error for a code, by the table of docs/formats.md, and nothing where it has none. A script that is refused today has
+# the line 0 and the kind 0.
+line_for() {
+    sed -n "/^## 14\\./,/^## 15\\./s/^| $1 | \`\\([^\`]*\\)\`.*/\\1/p" "$top/docs/formats.md" | sed 's/line L: NAME/line 0: not built/'
+}
+
+# Runs the program with these words, for 20 seconds at most. Standard output is kept, or goes to `sink`.
+run() {
+    status=0
+    rm -f -- *.image
+    : >written
+    timeout 20 "$program" "$@" >"${sink-written}" 2>said || status=$?
+}
+
+# The run before, which is the case of this name, ended with this code and its line, left an image of this size, or none, and wrote this
+# file.
+ended() {
+    {
+        [ "$status" = "$2" ] || echo "it ends with $status in place of $2"
+        line_for "$2" | diff --label 'standard error, as it is to be' --label 'as it is' -u - said
+        diff --label 'standard output, as it is to be' --label 'as it is' -u "$4" written
+        [ "$(find . -name '*.image' -printf %s)" = "$3" ] || echo "the image is not of this size in bytes: ${3:-none}"
+    } >differs || true
+    if [ -s differs ]; then
+        is_right=no
+        { echo "statuses: $1:" && cat differs; } >&2
+    fi
+}
+
+# The bytes of an image of one thread, one shard and 16 lines, by docs/formats.md.
+image=2200
+block docs/formats.md 'respct 1' 1 >script
+block docs/formats.md 'respct-report 1' 1 >report
+block README.md 'respct-report 1' 2 >cut_report
+echo respct >no_script
+head -c 8388608 /dev/zero >longest
+head -c 8388609 /dev/zero >too_long
+
+run start --image left.image <script
+ended 'all is done' 0 "$image" report
+run start --image=left.image <"$top/examples/cut.respct"
+ended 'the turns are used up' 4 "$image" cut_report
+run <script
+ended 'no words' 1 '' /dev/null
+run start --image <script
+ended 'no name behind --image' 1 '' /dev/null
+run start --image left.image <no_script
+ended 'no script' 2 '' /dev/null
+run start --image left.image </dev/null
+ended 'an empty source' 2 '' /dev/null
+run start --image left.image <longest
+ended 'no script, of as many bytes as a script may have' 2 '' /dev/null
+run start --image left.image <&-
+ended 'standard input is closed' 7 '' /dev/null
+run start --image left.image <folder
+ended 'standard input is a folder' 7 '' /dev/null
+sink=/dev/full run start --image left.image <script
+ended 'standard output is full' 8 "$image" /dev/null
+run start --image nowhere/left.image <script
+ended 'the folder of the image is not there' 9 '' /dev/null
+run start --image left.image <too_long
+ended 'one byte more than a script may have' 12 '' /dev/null
+
+[ "$is_right" = yes ]
+echo "statuses: as docs/formats.md has them, by $program"
