@@ -1,7 +1,7 @@
 -- What the events of the epoch write keep of the rooms in a recovery.
 use Rattle.std.proofs.Common.{◌≡◌, ◌≢◌, ℕ, ◌+◌, ◌-◌, ◌^◌, ◌<◌, false, List, length, refl, sym, ◌∙◌, subst, arith, length-set}
 use Rattle.std.proofs.Math.ListN.{length-map}
-use Rattle.line_memory.specs.Line.{BankState, stored, fenced, bank_stored, bank_written_back, bank_fenced}
+use Rattle.line_memory.specs.Line.{BankState, fenced, bank_stored, bank_written_back, bank_fenced}
 use Rattle.life_model.specs.Life.{Opening, sizes}
 use Rattle.epoch_word.specs.SuperLine.{IsSuperRoom}
 use Rattle.epoch_word.proofs.Stages.{store_law, write_back_law, fenced_law}

@@ -11,3 +11,4 @@ pub mod GoesOn
 pub mod Opens
 pub mod Worlds
 pub mod TornCounts
+pub mod TestImages

@@ -11,7 +11,6 @@ use Rattle.life_model.specs.Life.{Opening, script_of}
 use Rattle.life_model.specs.Crash.{IsCrashSafe}
 use Rattle.life_model.specs.Work.{torn_cells}
 use Rattle.epoch_word.specs.declared.stage.EpochStage.TheVariants.{InMemory}
-use Rattle.rooms.specs.declared.room.Room.{Room}
 use Rattle.rooms.specs.Rooms.{loads}
 use Rattle.yard_model.specs.declared.view.Beginning.{Beginning}
 use Rattle.yard_model.specs.Beginnings.{opening_of, sizes_at, IsBeginning}

@@ -1,7 +1,6 @@
 use Rattle.std.proofs.Common.{◌≡◌, ◌<◌, ◌≤◌, ◌+◌, ◌-◌, ℕ, arith, subst}
 use Rattle.recovery.specs.Banks.{MayBecome, Becomes}
 use Rattle.recovery.proofs.Begins.{thread_may, word_may, if_ok}
-use Rattle.seq_object.specs.Sizes.{thread_room}
 use Rattle.recovery.proofs.begin.room_of.Goals as goal
 
 pub queue_room-requires : goal.queue_room-requires
