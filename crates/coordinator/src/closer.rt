@@ -98,6 +98,19 @@ impl Closer {
         give_up(post, rooms, hand);
     }
 
+    /// Lets the closer go, where the epoch was released or its room was given back.
+    pub fn end(self)
+        requires over { self.hand ≡ Hand.Over }
+    {
+        let Closer { hand, .. } = self;
+        match hand {
+            Hand::Over => {}
+            Hand::Empty | Hand::AllDone => unreachable!(),
+            Hand::Flushing(_) | Hand::Flushed(_) => unreachable!(),
+            Hand::Shut(_) | Hand::Epoch(_, _) => unreachable!(),
+        }
+    }
+
     /// Releases the epoch, all of whose rooms are done.
     fn release_epoch<P: Post>(&mut self, post: &mut P) -> CloseStep
         requires closer { IsCloser self.old (P.view post.old) }

@@ -1,6 +1,6 @@
 //! The whole yard, which one thread owns.
 
-ghost use Rattle.std.specs.Prelude.{◌≡◌, ◌<◌, ◌^◌, length, map, Some, IfOk, IfErr};
+ghost use Rattle.std.specs.Prelude.{◌≡◌, ◌<◌, ◌^◌, length, map, slice_get, Some, IfOk, IfErr};
 ghost use Rattle.line_memory.specs.Line.{all_lines};
 ghost use Rattle.yard_model.specs.declared.view.Beginning.{Beginning as TheBeginning};
 ghost use Rattle.yard_model.specs.Beginnings.{opening_of};
@@ -154,6 +154,23 @@ impl PlainYard {
         ensures lawful { IsLawfulYard self.now }
     {
         self.arrival
+    }
+
+    /// How many entries were drawn.
+    pub fn entries(&self) -> u64
+        ensures number { result ≡ length self.now.told.history }
+        ensures lawful { IsLawfulYard self.now }
+    {
+        self.log.len() as u64
+    }
+
+    /// The entry at this place of the history.
+    pub fn entry(&self, place: u64) -> Entry
+        requires place { place < length self.now.told.history }
+        ensures entry { slice_get self.now.told.history place ≡ Some result }
+        ensures lawful { IsLawfulYard self.now }
+    {
+        self.log[place as usize].entry
     }
 }
 

@@ -46,7 +46,7 @@ counted_none p (l ∷ lines) each =
     grind (arith, common_steps)
 
 -- a line on which nothing is pending has no store that was not asked for
-quiet_asked : (epoch : ℕ) (l : LineState) → IsQuietCell epoch l → is_unasked l ≡ false
+pub quiet_asked : (epoch : ℕ) (l : LineState) → IsQuietCell epoch l → is_unasked l ≡ false
 quiet_asked epoch l quiet =
     ap (λ (ss : List Store). is_unasked (record l { pending = ss })) quiet.pending
     ∙ ap (λ (k : ℕ). is_unasked (record l { pending = []; asked = k })) quiet.asked

@@ -28,6 +28,7 @@ module _ (k : Knowledge) (old new : BankState) (was : IsKept k (Super old)) (non
     history = was.history;
     in_memory = λ low. let n = number in absurd (omega (arith, low, n));
     point_in_memory = λ t is. let e : None ≡ Some t = sym none ∙ is in absurd (cc);
+    no_position = λ low. none;
     no_fewer = no_fewer;
     counted = was.counted;
   }

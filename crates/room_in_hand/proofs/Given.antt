@@ -40,6 +40,10 @@ taken_is : (b : Bool) (p t : TakenPosition) → cond b (Some p) None ≡ Some t 
 taken_is true p t is = search rules
 taken_is false p t is = absurd (cc)
 
+-- of a room of commands no position is taken
+none_taken : (a b : Bool) (p : TakenPosition) → a ≡ false → cond (a && b) (Some p) None ≡ None
+none_taken a b p is = ap (λ (c : Bool). cond (c && b) (Some p) None) is
+
 module _ (v : View) (r : ℕ) (x : Room) (covered : ℕ) (of_type : IsOfItsType x) (given : IsGiven v r x covered) where
   abbrev known : Knowledge
   known = knows (gripped v r x covered) (grip_on v r x covered)
@@ -54,6 +58,7 @@ module _ (v : View) (r : ℕ) (x : Room) (covered : ℕ) (of_type : IsOfItsType 
     history = sym (append-nil (history_of x));
     in_memory = given.free.safe.in_memory;
     point_in_memory = λ t is. sym (ap (λ (p : TakenPosition). p.in_memory) (taken t is));
+    no_position = λ low. none_taken (nat_lt (sizes_known v).shards r) (nat_lt r (super_room (sizes_known v))) (taken_position v.ran x) (le-ltb (sizes_known v).shards r low);
     no_fewer = given.free.safe.no_fewer;
     counted = let n = given.free.safe.no_fewer in let c = of_type.counted in omega (arith, n, c);
   }

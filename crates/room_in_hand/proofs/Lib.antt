@@ -3,3 +3,8 @@ pub mod Closings
 pub mod Given
 pub mod Returns
 pub mod Epochs
+pub mod Running
+pub mod CommandRooms
+pub mod Beginnings
+pub mod Stores
+pub mod Notes

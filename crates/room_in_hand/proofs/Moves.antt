@@ -88,6 +88,7 @@ module _ (x y : Room) (cells : CellBankState) (m : Moves x y cells) where
     history = history_same ∙ was.history;
     in_memory = λ low. subst (λ (r : RoomWords). StandsFor live_layout (sizes_of k.settings) k.room r k.covered) (sym memory) (was.in_memory low);
     point_in_memory = λ t is. ap (point_in live_layout) memory ∙ was.point_in_memory t is;
+    no_position = was.no_position;
     no_fewer = no_fewer;
     counted = was.counted;
   }
@@ -136,3 +137,9 @@ bound_most epoch closings (Torn c) = omega arith
 bound_most epoch closings (Running c) = omega arith
 bound_most epoch closings (Closing c) = omega arith
 bound_most epoch closings (Saved c) = saved_bound (nat_lt c epoch) closings
+
+-- of a thread's room it is that of its cells' state
+pub thread_bound : (z : Sizes) (epoch closings : ℕ) (done : Bool) (r : ℕ) (x : Room) → z.shards < r → r < super_room z → free_bound z epoch closings done r x ≡ position_bound epoch closings (state_of x)
+thread_bound z epoch closings done r x above below =
+    ap (λ (b : Bool). cond b (4 * length (history_of x)) (cond (nat_lt r (super_room z)) (position_bound epoch closings (state_of x)) (closings + cond done 1 0))) (le_false r z.shards above)
+    ∙ ap (λ (b : Bool). cond b (position_bound epoch closings (state_of x)) (closings + cond done 1 0)) (lt_true r (super_room z) below)

@@ -36,7 +36,7 @@ use Rattle.life_model.specs.Present.{LoadsFirstStores}
 use Rattle.yard_model.specs.Dead.{begun_by}
 use Rattle.yard_model.specs.Conditions.{behind, IsKeptRoom, IsFreeFor, IsDeadFor, MayUnlock, MayRetreat}
 use Rattle.room_in_hand.specs.Known.{knows}
-use Rattle.room_in_hand.specs.InHand.{resting, flushing, flushed, shut, writing_epoch, IsKept, IsResting, IsWritingEpoch, WritesEpoch, epoch_write_backs}
+use Rattle.room_in_hand.specs.InHand.{resting, flushing, flushed, shut, writing_epoch, working, writing_point, IsKept, IsResting, IsWritingEpoch, WritesEpoch, epoch_write_backs}
 use Rattle.room_in_hand.specs.Laws.{MayGoHomeLaw, MayBeGivenUpLaw}
 use Rattle.room_in_hand.proofs.Moves.{rests_by_loads, below_super, bound_most, le_false, lt_true}
 use Rattle.room_in_hand.proofs.Closings.{are_cells, counted_none}
@@ -57,7 +57,7 @@ dead_by true b h p closings le = omega arith
 dead_by false true h p closings le = le
 dead_by false false h p closings le = omega arith
 
-dead_rises : (z : Sizes) (epoch closings r : ℕ) (x : Room) → free_bound z epoch closings false r x ≤ dead_bound z closings r x
+pub dead_rises : (z : Sizes) (epoch closings r : ℕ) (x : Room) → free_bound z epoch closings false r x ≤ dead_bound z closings r x
 dead_rises z epoch closings r x = dead_by (nat_le r z.shards) (nat_lt r (super_room z)) (4 * length (history_of x)) (position_bound epoch closings (state_of x)) closings (bound_most epoch closings (state_of x))
 
 -- Saved cells are free once the room is done, and cells of a closing are those of a room that may be given up.
@@ -77,7 +77,7 @@ saved_whole epoch (Saved c) by torn = torn
 closing_whole : (epoch : ℕ) (state : CellState) → state ≡ ClosingCells epoch → IsTorn state → ⊥
 closing_whole epoch state is torn = subst IsTorn is torn
 
-free_dead : (epoch : ℕ) (done closing : Bool) (state : CellState) → (done ≡ true → closing ≡ true) → IsFreeState epoch done state → IsDeadState epoch closing state
+pub free_dead : (epoch : ℕ) (done closing : Bool) (state : CellState) → (done ≡ true → closing ≡ true) → IsFreeState epoch done state → IsDeadState epoch closing state
 free_dead epoch done closing (Torn c) may free = free
 free_dead epoch done closing (RunningCells c) may free = free
 free_dead epoch done closing (ClosingCells c) may free = absurd free
@@ -89,13 +89,13 @@ module _ (v : View) (g : Grip) (x : Room) (kept : IsKept (knows v g) x) (rests :
   abbrev z : Sizes
   z = sizes_known v
 
-  below : g.room < super_room z
+  pub below : g.room < super_room z
   below = below_super v.beginning.settings g.room x rests.cells kept.room.kind
 
   by_loads : words_of x ≡ loads x
   by_loads = rests_by_loads x rests.idle whole
 
-  kept_room : IsKeptRoom v g x
+  pub kept_room : IsKeptRoom v g x
   kept_room = record {
     room = kept.room;
     history = kept.history;
@@ -103,11 +103,11 @@ module _ (v : View) (g : Grip) (x : Room) (kept : IsKept (knows v g) x) (rests :
     point_loads = λ _ t is. (ap (point_in live_layout) (sym by_loads) ∙ (rests.point t is).0, (rests.point t is).1);
   }
 
-  stands_now : g.room ≤ z.shards → StandsFor live_layout z g.room (loads x) (behind v g.room (history_of x))
+  pub stands_now : g.room ≤ z.shards → StandsFor live_layout z g.room (loads x) (behind v g.room (history_of x))
   stands_now low = subst (λ (w : RoomWords). StandsFor live_layout z g.room w (behind v g.room (history_of x))) by_loads
       (subst (λ (ns : List Noted). StandsFor live_layout z g.room (words_of x) (behind v g.room ns)) (sym kept.history) (rests.stands low))
 
-  safe : (done : Bool) → (done ≡ true → IsSavedIn (λ c. c ≤ v.ran) (state_of x)) → IsSafeRoom z v.ran (write_backs_at v.beginning g.room) done (behind v g.room (take g.covered g.history)) g.room x
+  pub safe : (done : Bool) → (done ≡ true → IsSavedIn (λ c. c ≤ v.ran) (state_of x)) → IsSafeRoom z v.ran (write_backs_at v.beginning g.room) done (behind v g.room (take g.covered g.history)) g.room x
   safe done saved = record {
     cells = λ _. are_cells x rests.cells kept.whole;
     saved = λ is _. saved is;
@@ -139,7 +139,7 @@ module _ (v : View) (g : Grip) (x : Room) (kept : IsKept (knows v g) x) (rests :
   pub loads_none : (command : Option Command) → g.room ≤ z.shards → LoadsFirstStores z v.ran g.room command (loads x) (behind v g.room (history_of x))
   loads_none command low = record { before = loads x; stood = stands_now low; made = 0; loads = λ line word. refl }
 
-runs_not : (phase : Phase) → phase ≡ Closing → phase ≡ Running → ⊥
+pub runs_not : (phase : Phase) → phase ≡ Closing → phase ≡ Running → ⊥
 runs_not phase closes runs = let e : Closing ≡ Running = sym closes ∙ runs in absurd (cc)
 
 pub shut_goes_home : MayGoHomeLaw shut
@@ -275,3 +275,5 @@ given_up flushing v g x of off phase held i = cells_given_up v g x off phase hel
 given_up flushed v g x of off phase held i = cells_given_up v g x off phase held i.kept i.used.0 (closing_whole v.ran (state_of x) i.used.1) (closing_dead v g x off phase held i.kept i.used.1)
 given_up shut v g x of off phase held i = cells_given_up v g x off phase held i.kept i.used.0 (saved_whole v.ran (state_of x) i.used.1) (free_dead v.ran true true (state_of x) (λ _. refl) (saved_free v.ran (state_of x) i.used.1))
 given_up (writing_epoch stage) v g x of off phase held i = epoch_given_up v g x stage off held i.kept i.used
+given_up (working under) v g x of off phase held i = absurd of
+given_up (writing_point point end) v g x of off phase held i = absurd of

@@ -1,15 +1,24 @@
 -- A room in hand: what holds of it by what it is used for, and by what its holder knows of it.
-use Rattle.std.specs.Prelude.{◌≡◌, ℕ, ◌+◌, ◌<◌, ◌≤◌, ◌^◌, false, Some, None}
+use Rattle.std.specs.Prelude.{◌≡◌, ℕ, ◌+◌, ◌*◌, ◌<◌, ◌≤◌, ◌^◌, false, Some, None, length}
+use Rattle.seq_object.specs.declared.history.RestartPoint.{RestartPoint}
 use Rattle.seq_object.specs.Sizes.{sizes_of}
-use Rattle.line_memory.specs.Line.{BankState}
+use Rattle.seq_object.specs.Object.{room_of, reply_to, contents_after}
+use Rattle.line_memory.specs.Line.{BankState, unasked, is_unasked_in}
+use Rattle.room_model.specs.Chains.{RoomWords}
 use Rattle.room_model.specs.MapRoom.{live_layout}
 use Rattle.room_model.specs.Rooms.{StandsFor, point_in}
 use Rattle.room_model.specs.Banks.{memory_words}
-use Rattle.incll_var.specs.declared.state.CellState.TheVariants.{Closing}
+use Rattle.room_model.specs.Writes.{command_stores, newly_pending}
+use Rattle.incll_var.specs.declared.state.CellState.TheVariants.{Running, Closing}
 use Rattle.incll_var.specs.Cells.{IsSavedIn}
 use Rattle.epoch_word.specs.declared.stage.EpochStage.{EpochStage}
 use Rattle.epoch_word.specs.declared.stage.EpochStage.TheVariants.{Before, Stored, AskedFor, InMemory}
 use Rattle.epoch_word.specs.Stages.{IsAtStage}
+use Rattle.command_room.specs.declared.under_way.UnderWay.{UnderWay}
+use Rattle.command_room.specs.Room.{CommandRoomState, words_of as command_words}
+use Rattle.command_room.specs.Laws.{HasMade}
+use Rattle.restart_point.specs.declared.thread_end.ThreadEnd.{ThreadEnd}
+use Rattle.restart_point.specs.Rooms.{ThreadRoomState, room_behind}
 use Rattle.rooms.specs.declared.room.Room.{Room}
 use Rattle.rooms.specs.declared.room.Room.TheVariants.{Map, Queue, Thread, Super}
 use Rattle.rooms.specs.Rooms.{IsRoomOf, IsWhole, IsIdle, HasCells, bank_of, state_of, words_of, history_of, end_of, lines_unasked}
@@ -29,6 +38,10 @@ pub data RoomUse : Type 0 where
   shut : RoomUse
   -- the next epoch is written to it, and this is how far that has come
   writing_epoch : EpochStage → RoomUse
+  -- this command is under way in it
+  working : UnderWay → RoomUse
+  -- this restart point is written to it, with this end
+  writing_point : RestartPoint → ThreadEnd → RoomUse
 
 -- What holds of it whatever it is used for: it has its history, and memory has of it what it had.
 pub record IsKept (k : Knowledge) (x : Room) : Type 0 where
@@ -39,6 +52,8 @@ pub record IsKept (k : Knowledge) (x : Room) : Type 0 where
   pub in_memory : k.room ≤ k.settings.shards → StandsFor live_layout (sizes_of k.settings) k.room (memory_words k.epoch (bank_of x)) k.covered
   -- of a thread's room the restart point that it had
   pub point_in_memory : (t : TakenPosition) → k.position ≡ Some t → point_in live_layout (memory_words k.epoch (bank_of x)) ≡ t.in_memory
+  -- of a room of commands no position was taken
+  pub no_position : k.room ≤ k.settings.shards → k.position ≡ None
   -- its write-backs are no fewer than at the beginning
   pub no_fewer : k.opened ≤ (bank_of x).write_backs
   -- which were a number of 64 bits
@@ -79,6 +94,50 @@ WritesEpoch stage k (Queue x) = ⊥
 WritesEpoch stage k (Thread x) = ⊥
 WritesEpoch stage k (Super x) = IsWritingEpoch stage k x
 
+-- What holds of a room in which a command is under way, with the object's reply.
+pub record IsWorking (under : UnderWay) (k : Knowledge) (s : CommandRoomState) : Type 0 where
+  pub running : s.cells.state ≡ Running k.epoch
+  pub going : s.under_way ≡ Some under
+  -- the command is one of the room, and the reply is the object's
+  pub here : room_of (sizes_of k.settings) under.command ≡ k.room
+  pub reply : reply_to (sizes_of k.settings) k.now under.command ≡ Some under.reply
+  -- behind the stores that are left it stands for what the command leaves
+  pub stands : StandsFor live_layout (sizes_of k.settings) k.room (command_words s) (contents_after (sizes_of k.settings) k.now under.command)
+  -- of the command's stores, planned where it stood for what its history leaves, so many are made
+  pub before : RoomWords
+  pub stood : StandsFor live_layout (sizes_of k.settings) k.room before k.now
+  pub count : ℕ
+  pub made : HasMade before (command_stores live_layout (sizes_of k.settings) k.epoch k.room before under.command) count s
+  pub few_left : length s.plan.stores ≤ 22
+  -- its write-backs are few, and with those that are owed at most four more
+  pub write_backs : s.cells.bank.write_backs ≤ k.opened + 4 * length k.history
+  pub owed : s.cells.bank.write_backs + unasked s.cells.bank.lines + newly_pending (is_unasked_in s.cells.bank) s.plan.stores ≤ k.opened + 4 * length k.history + 4
+
+-- rooms of commands alone work
+abbrev pub WorksAt : UnderWay → Knowledge → Room → Type 0
+WorksAt under k (Map x) = IsWorking under k x
+WorksAt under k (Queue x) = IsWorking under k x
+WorksAt under k (Thread x) = ⊥
+WorksAt under k (Super x) = ⊥
+
+-- What holds of a thread's room to which a restart point is written.
+pub record IsWritingPoint (point : RestartPoint) (end : ThreadEnd) (k : Knowledge) (t : ThreadRoomState) : Type 0 where
+  pub running : t.cells.state ≡ Running k.epoch
+  -- behind the stores that are left it has this restart point
+  pub point_behind : point_in live_layout (room_behind t) ≡ point
+  pub end_is : t.end ≡ end
+  pub few_left : length t.plan.stores ≤ 5
+  -- its one line is to be written back, once it is stored to
+  pub one_line : unasked t.cells.bank.lines + newly_pending (is_unasked_in t.cells.bank) t.plan.stores ≡ 1
+  pub write_backs : t.cells.bank.write_backs ≤ k.opened + k.closings
+
+-- a thread's room alone has a restart point
+abbrev pub WritesPoint : RestartPoint → ThreadEnd → Knowledge → Room → Type 0
+WritesPoint point end k (Map x) = ⊥
+WritesPoint point end k (Queue x) = ⊥
+WritesPoint point end k (Thread x) = IsWritingPoint point end k x
+WritesPoint point end k (Super x) = ⊥
+
 -- What holds of it by its use.
 abbrev pub IsUsedAs : RoomUse → Knowledge → Room → Type 0
 IsUsedAs resting k x = IsResting k x × IsFreeState k.epoch false (state_of x)
@@ -86,6 +145,8 @@ IsUsedAs flushing k x = IsResting k x × (state_of x ≡ Closing k.epoch) × (0 
 IsUsedAs flushed k x = IsResting k x × (state_of x ≡ Closing k.epoch) × (lines_unasked x ≡ 0)
 IsUsedAs shut k x = IsResting k x × IsSavedIn (λ c. c ≤ k.epoch) (state_of x)
 IsUsedAs (writing_epoch stage) k x = WritesEpoch stage k x
+IsUsedAs (working under) k x = WorksAt under k x
+IsUsedAs (writing_point point end) k x = WritesPoint point end k x
 
 -- a room in hand
 pub record IsInHand (role : RoomUse) (k : Knowledge) (x : Room) : Type 0 where

@@ -1,8 +1,9 @@
 -- What a holder knows of the room in its hands, by its view.
-use Rattle.std.specs.Prelude.{ℕ, ◌++◌, List, take, Option}
+use Rattle.std.specs.Prelude.{ℕ, ◌++◌, ◌∷◌, List, [], take, Option}
 use Rattle.seq_object.specs.declared.history.Noted.{Noted}
 use Rattle.seq_object.specs.declared.settings.Settings.{Settings}
-use Rattle.seq_object.specs.Object.{Contents}
+use Rattle.seq_object.specs.Sizes.{sizes_of}
+use Rattle.seq_object.specs.Object.{Contents, contents_after}
 use Rattle.yard_model.specs.declared.view.TakenPosition.{TakenPosition}
 use Rattle.yard_model.specs.declared.view.View.{View}
 use Rattle.yard_model.specs.declared.view.Grip.{Grip}
@@ -35,3 +36,7 @@ knows v g = record {
   closings = closings_known v;
   position = g.position;
 }
+
+-- what is known once an entry of the room is drawn
+abbrev pub with_noted : Knowledge → Noted → Knowledge
+with_noted k n = record k { history = k.history ++ n ∷ []; now = contents_after (sizes_of k.settings) k.now n.entry.command }

@@ -1,7 +1,7 @@
 //! Laws on rooms in hand, each the contract of a function that does nothing.
 
 ghost use Rattle.room_in_hand.specs.InHand.{shut, writing_epoch};
-ghost use Rattle.room_in_hand.specs.Laws.{GivenRestsLaw, GivenEpochLaw, MayGoHomeLaw, MayBeGivenUpLaw};
+ghost use Rattle.room_in_hand.specs.Laws.{GivenRestsLaw, GivenEpochLaw, MayGoHomeLaw, MayBeGivenUpLaw, RestsGoesHomeLaw, PointGoesHomeLaw, RunnerGivesUpLaw, DrawnKnowsLaw};
 
 use epoch_word::EpochStage;
 
@@ -17,4 +17,13 @@ pub fn return_laws()
     ensures cells { MayGoHomeLaw shut }
     ensures epoch { MayGoHomeLaw (writing_epoch EpochStage.InMemory) }
     ensures given_up { MayBeGivenUpLaw }
+{}
+
+/// A thread that runs may give a room of commands back that rests, and its own once its restart point is written; where the power was
+/// seen off it may give its room up whatever is under way in it. And what it knows of its room once an entry is drawn.
+pub fn running_laws()
+    ensures rests { RestsGoesHomeLaw }
+    ensures point { PointGoesHomeLaw }
+    ensures given_up { RunnerGivesUpLaw }
+    ensures drawn { DrawnKnowsLaw }
 {}
