@@ -1,0 +1,9 @@
+pub mod Counted
+pub mod GivenUp
+pub mod Unchanged
+pub mod Commanding
+pub mod Beginnings
+pub mod Homes
+pub mod OwnWrites
+pub mod Closings
+pub mod Standings

@@ -1,0 +1,4 @@
+pub mod Rows
+pub mod GivingUp
+pub mod Begun
+pub mod OwnRooms

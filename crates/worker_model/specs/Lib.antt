@@ -1,0 +1,4 @@
+pub mod Counts
+pub mod Workers
+pub mod Turns
+pub mod Laws
