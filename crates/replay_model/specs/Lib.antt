@@ -1,0 +1,4 @@
+pub mod Replays
+pub mod Kept
+pub mod Endings
+pub mod Laws
