@@ -1,0 +1,7 @@
+use Rattle.std.proofs.Common.{IfOk, Result, Ok, Err}
+use Rattle.std.specs.declared.alloc.AllocError.{AllocError}
+use Rattle.script_run.proofs.Rising.{rising_told}
+use Rattle.script_run.proofs.tests.replayed.Goals as goal
+
+pub returns : goal.returns
+returns c = record { rising = rising_told _ _ _ _ c.replay_start.result c.replay_start.ensures.told }
