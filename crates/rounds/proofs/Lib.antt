@@ -1,0 +1,6 @@
+mod Sums
+mod Spends
+mod GoesOn
+mod Seldom
+mod Enough
+mod Alone
