@@ -8,10 +8,15 @@ ghost use Rattle.script_run.specs.Runs.{AreReplayed};
 
 use crate::replay_start;
 use formatting::format;
+use image_check::{Recovered, check_image};
 use life_model::Outcome;
+use power_cut::{cut, image_bytes, read_image};
 use script_text::{Mode, Report, Script, read_script, report_text};
+use seq_object::{Pair, Settings};
 use std::alloc::{AllocError, Global};
+use std::process::Abort;
 use std::test::Fail;
+use store_order::Choice;
 
 /// The script of a text, of which threads do not run by themselves.
 fn script_in(alloc: Global, text: &str) -> Result<Script, AllocError>
@@ -90,6 +95,74 @@ fn one_put_cut_at_its_turns(rt: HostRuntime) -> Result<(), Fail> {
         assert!(rt; report == expected.into_bytes(), "after {turns} turns");
     }
     Ok(())
+}
+
+const SETTINGS: Settings = Settings {
+    threads: 1,
+    shards: 1,
+    lines: 16,
+    every: 1,
+};
+
+/// What the image of a cut recovers to, of a life whose one thread puts a pair and has had so many turns. The image is written and read again.
+fn recovered(rt: &impl Abort, alloc: Global, turns: u32, keep: &Choice) -> Recovered {
+    let text = one_thread(alloc, turns, "put 5 7\n").expect(rt, "memory");
+    let script = script_in(alloc, &text).expect(rt, "a script");
+    let mut memory = format(alloc, &script.settings).expect(rt, "memory");
+    let _report = replay_start(alloc, &script, &mut memory).expect(rt, "memory");
+    let left = cut(alloc, &memory, &SETTINGS, keep).expect(rt, "memory");
+    let bytes = image_bytes(alloc, &left).expect(rt, "memory");
+    let image = read_image(alloc, bytes.as_slice()).expect(rt, "an image");
+    check_image(alloc, &image).expect(rt, "a lawful image")
+}
+
+/// Whether that is what was there before the put.
+fn is_opening(found: &Recovered) -> bool {
+    found.epoch == 1
+        && found.positions.as_slice() == [0].as_slice()
+        && found.pairs.is_empty()
+        && found.items.is_empty()
+}
+
+/// Whether it is what is there behind it.
+fn is_whole_put(found: &Recovered) -> bool {
+    found.epoch == 2
+        && found.positions.as_slice() == [1].as_slice()
+        && found.pairs.as_slice() == [Pair { key: 5, value: 7 }].as_slice()
+        && found.items.is_empty()
+}
+
+/// The next epoch is stored at turn 45, asked for at turn 46, and in memory behind turn 47. Before its store no choice keeps anything of the
+/// put, behind its fence each keeps all of it, and between the two the super room's line decides.
+#[test]
+fn one_put_is_kept_whole_or_not_at_all(rt: HostRuntime) {
+    for turns in 0..50 {
+        let nothing = recovered(&rt, rt.alloc(), turns, &Choice::Nothing);
+        assert!(rt;
+            if turns < 47 {
+                is_opening(&nothing)
+            } else {
+                is_whole_put(&nothing)
+            },
+            "nothing, after {turns} turns"
+        );
+        let all = recovered(&rt, rt.alloc(), turns, &Choice::All);
+        assert!(rt;
+            if turns < 45 {
+                is_opening(&all)
+            } else {
+                is_whole_put(&all)
+            },
+            "all, after {turns} turns"
+        );
+        for seed in 0..4 {
+            let drawn = recovered(&rt, rt.alloc(), turns, &Choice::Seed(seed));
+            assert!(rt;
+                is_opening(&drawn) && turns < 47 || is_whole_put(&drawn) && turns >= 45,
+                "seed {seed}, after {turns} turns"
+            );
+        }
+    }
 }
 
 /// Two threads that put the same key: the second waits twice for the room that the first holds.

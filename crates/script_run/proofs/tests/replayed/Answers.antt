@@ -1,5 +1,3 @@
-use Rattle.std.proofs.Common.{IfOk, Result, Ok, Err}
-use Rattle.std.specs.declared.alloc.AllocError.{AllocError}
 use Rattle.script_run.proofs.Rising.{rising_told}
 use Rattle.script_run.proofs.tests.replayed.Goals as goal
 
