@@ -27,7 +27,7 @@ use Rattle.yard_laws.proofs.Present.{life_is_present}
 use Rattle.yard_laws.proofs.Outcomes.{life_ends}
 use Rattle.yard_laws.proofs.WriteBacks.{life_flushes_little, memory_counts}
 use Rattle.plain_yard.specs.Shown.{ShownYard, IsLawfulYard}
-use Rattle.replay_model.specs.Endings.{IsReportOf, IsFreshStart, StartIsToldLaw}
+use Rattle.replay_model.specs.Endings.{IsReportOfYard, IsFreshStart, StartIsToldLaw}
 
 -- marks that were given epochs cover what they covered before
 lengths_from : (epoch : ℕ) (ns : List ℕ) → lengths (marks_from epoch ns) ≡ ns
@@ -57,7 +57,7 @@ counted_few b w memory fresh m =
     total-same (counts_in memory) _ (room_count (sizes_at b)) (λ k lt. let none = fresh.counts k in omega (arith, none)) in
     omega (arith, counted, number, risen)
 
-module _ (y : ShownYard) (r : ReportState) (memory : List BankState) (lawful : IsLawfulYard y) (fresh : IsFreshStart y.beginning) (report : IsReportOf y r memory)
+module _ (y : ShownYard) (r : ReportState) (memory : List BankState) (lawful : IsLawfulYard y) (fresh : IsFreshStart y.beginning) (report : IsReportOfYard y r memory)
     (flushed : r.flushed ≡ all_write_backs memory) where
   abbrev o : Opening
   o = opening_of y.beginning

@@ -16,7 +16,7 @@ use Rattle.worker_model.specs.declared.hand.Turn.{Turn}
 use Rattle.worker_model.specs.Workers.{WorkerState, IsWorker}
 use Rattle.replay_model.specs.Replays.{ReplayState, TurnOf}
 use Rattle.replay_model.specs.Kept.{IsReplay}
-use Rattle.replay_model.specs.Laws.{TurnSetsOwnViewLaw, TurnKeepsCheckpointsLaw, TurnKeepsHistoryLaw, TurnKeepsReplayLaw, Releases, AddsEntry}
+use Rattle.replay_model.specs.Laws.{TurnSetsOwnViewLaw, TurnKeepsCheckpointsLaw, TurnKeepsHistoryLaw, TurnKeepsReplayLaw, AddsMark, AddsEntry}
 use Rattle.replay_laws.proofs.Answered.{both_tell, same_tells, set_as_it_was}
 use Rattle.replay_laws.proofs.Turned.{IsStill, IsCalm, HasDrawn, HasTurned, has_turned}
 
@@ -54,7 +54,7 @@ module _ (c d : WorkerState) (v w : View) (t u : Option Told) where
   kept_checkpoints (inl calm) = calm_checkpoints calm
   kept_checkpoints (inr drawn) = both_tell t u _ _ (λ a b f. ap (λ (o : Told). o.checkpoints) f.1) drawn.drew.world
 
-  turned_checkpoints : HasTurned c d v t w u → BothTell t u (λ (a b : Told). ((d.marks ≡ c.marks) × AreSaved a b) ⊎ Releases c d v a b)
+  turned_checkpoints : HasTurned c d v t w u → BothTell t u (λ (a b : Told). ((d.marks ≡ c.marks) × AreSaved a b) ⊎ AddsMark c d v a b)
   turned_checkpoints (inl kept) = both_tell t u _ _ (λ a b e. inl (kept.0, e)) (kept_checkpoints kept.1)
   turned_checkpoints (inr ended) = both_tell t u _ _ (λ a b f. inr (record {
     mark = ended.mark;

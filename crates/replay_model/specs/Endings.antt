@@ -12,7 +12,7 @@ use Rattle.plain_yard.specs.Shown.{ShownYard, IsLawfulYard}
 
 -- a report and a memory are those of a yard, of which all rooms are at home: the yard's entries, and its checkpoints with their epochs; the rooms
 -- that were given back in mid-work; and how the yard shows that its life ends
-pub record IsReportOf (y : ShownYard) (r : ReportState) (memory : List BankState) : Type 0 where
+pub record IsReportOfYard (y : ShownYard) (r : ReportState) (memory : List BankState) : Type 0 where
   pub resumed : r.resumed ≡ is_resume y.beginning.life
   pub began : r.began ≡ y.beginning.epoch
   pub entries : r.entries ≡ y.told.history
@@ -28,5 +28,5 @@ pub record IsFreshStart (b : Beginning) : Type 0 where
 
 -- a report of a start that is its yard's tells of the life, where it tells the write-backs that the memory counted
 abbrev pub StartIsToldLaw : Type 0
-StartIsToldLaw = (y : ShownYard) (r : ReportState) (memory : List BankState) → IsLawfulYard y → IsFreshStart y.beginning → IsReportOf y r memory
+StartIsToldLaw = (y : ShownYard) (r : ReportState) (memory : List BankState) → IsLawfulYard y → IsFreshStart y.beginning → IsReportOfYard y r memory
     → r.flushed ≡ all_write_backs memory → TellsOf (opening_of y.beginning) [] 0 r memory

@@ -24,7 +24,7 @@ abbrev pub TurnSetsOwnViewLaw : Type 0
 TurnSetsOwnViewLaw = (c d : WorkerState) (v w : View) (t u : Option Told) (r : Result Turn AllocError) → IsTold t v → DoesTurn c v t r d w u → SetsOwnView v t w u
 
 -- behind a turn the checkpoints of a told state are those before it, and so are the worker's marks; or one more of both, which begins the next epoch
-pub record Releases (c d : WorkerState) (v : View) (a b : Told) : Type 0 where
+pub record AddsMark (c d : WorkerState) (v : View) (a b : Told) : Type 0 where
   pub mark : Mark
   pub over : Bool
   pub epoch : mark.epoch ≡ v.ran + 1
@@ -33,7 +33,7 @@ pub record Releases (c d : WorkerState) (v : View) (a b : Told) : Type 0 where
 
 abbrev pub TurnKeepsCheckpointsLaw : Type 0
 TurnKeepsCheckpointsLaw = (c d : WorkerState) (v w : View) (t u : Option Told) (r : Result Turn AllocError) → IsTold t v → DoesTurn c v t r d w u
-    → BothTell t u (λ (a b : Told). ((d.marks ≡ c.marks) × (b.checkpoints ≡ a.checkpoints)) ⊎ Releases c d v a b)
+    → BothTell t u (λ (a b : Told). ((d.marks ≡ c.marks) × (b.checkpoints ≡ a.checkpoints)) ⊎ AddsMark c d v a b)
 
 -- one entry more, which is the worker's: of its next command, with some reply
 pub record AddsEntry (c : WorkerState) (before behind : List Entry) : Type 0 where

@@ -20,7 +20,7 @@ use Rattle.worker_model.specs.declared.hand.Turn.{Turn}
 use Rattle.worker_model.specs.Workers.{WorkerState}
 use Rattle.replay_model.specs.Replays.{ReplayState, TurnOf}
 use Rattle.replay_model.specs.Kept.{IsReplay}
-use Rattle.replay_model.specs.Laws.{Releases}
+use Rattle.replay_model.specs.Laws.{AddsMark}
 use Rattle.replay_laws.proofs.Keeps.{number_at, turn_keeps_checkpoints}
 use Rattle.script_run.specs.Runs.{HaveDone}
 use Rattle.script_run.specs.Steps.{marks_in, marks_by, AreMarksOf, HasTurnOrDries, StaysReplay}
@@ -101,7 +101,7 @@ module _ (s : ReplayState) (was : IsReplay s) (i : ℕ) (r : Result Turn AllocEr
       (λ j. reported (opening_of (b j)) (marks_of (b j) (l j)))
 
   -- the thread closes where a mark comes, and so it ran in the epoch that ends
-  closing : Releases c d v s.yard.told t.yard.told → v.phase ≡ Closing
+  closing : AddsMark c d v s.yard.told t.yard.told → v.phase ≡ Closing
   closing is = ⊎_elim
       (λ (e : d.marks ≡ c.marks).
       let longer : length d.marks ≡ length (c.marks ++ is.mark ∷ []) = ap length is.marks in
@@ -111,7 +111,7 @@ module _ (s : ReplayState) (was : IsReplay s) (i : ℕ) (r : Result Turn AllocEr
       (λ (e : v.phase ≡ Closing). e)
       own.marks
 
-  ran_now : Releases c d v s.yard.told t.yard.told → v.ran ≡ epoch_now s.yard.beginning s.yard.told.checkpoints
+  ran_now : AddsMark c d v s.yard.told t.yard.told → v.ran ≡ epoch_now s.yard.beginning s.yard.told.checkpoints
   ran_now is =
       let at : ViewIs s.yard.told.world i v = subst (λ (k : ℕ). ViewIs s.yard.told.world k v) (number_at s.yard i was.lawful thread) told.1 in
       (was.lawful.epochs.views i v at).runs (λ (f : v.phase ≡ Standing). let e : Standing ≡ Closing = sym f ∙ closing is in absurd (cc))
@@ -123,7 +123,7 @@ module _ (s : ReplayState) (was : IsReplay s) (i : ℕ) (r : Result Turn AllocEr
         mark_is ∙ (ap (λ (l : List Mark). slice_get l (length c.marks)) same.0 ∙ slice_get_past c.marks (length c.marks) (omega arith)) in
         ap (λ (o : Option Mark). marks ++ option_to_list o) none ∙ (append_none marks ∙ (are ∙ same_told s.yard.told.checkpoints same.1))
 
-    one_mark : Releases c d v s.yard.told t.yard.told → AreMarksOf (marks ++ option_to_list (slice_get (marks_by t i) (length (marks_by s i)))) t
+    one_mark : AddsMark c d v s.yard.told t.yard.told → AreMarksOf (marks ++ option_to_list (slice_get (marks_by t i) (length (marks_by s i)))) t
     one_mark is =
         let some : slice_get (marks_by t i) (length (marks_by s i)) ≡ Some is.mark =
         mark_is ∙ (ap (λ (l : List Mark). slice_get l (length c.marks)) is.marks ∙ behind_all c.marks is.mark) in

@@ -13,7 +13,7 @@ use Rattle.yard_model.specs.World.{arrival}
 use Rattle.yard_model.specs.Lives.{IsMemoryOf, NamesDead}
 use Rattle.yard_model.specs.Outcomes.{ShowsEnd}
 use Rattle.plain_yard.specs.Shown.{ShownYard, IsLawfulYard}
-use Rattle.replay_model.specs.Endings.{IsReportOf}
+use Rattle.replay_model.specs.Endings.{IsReportOfYard}
 use Rattle.script_run.specs.declared.ending.Space.{Space}
 use Rattle.script_run.specs.Ends.{HasSpace, TellsWaiting, outcome_of}
 use Rattle.script_run.proofs.Fitting.{entries_fit}
@@ -41,7 +41,7 @@ pub record IsOfStart (y : ShownYard) (r : ReportState) (dry ended waiting : Bool
   pub outcome : r.outcome ≡ outcome_of dry ended waiting
 
 pub is_report : (y : ShownYard) (r : ReportState) (dry over waits : Bool) (memory : List BankState) → IsLawfulYard y → IsOfStart y r dry over waits
-    → IsReadOff y r.entries r.held waits memory → IsReportOf y r memory
+    → IsReadOff y r.entries r.held waits memory → IsReportOfYard y r memory
 is_report y r dry over waits memory lawful of read = record {
   resumed = of.resumed ∙ sym (ap is_resume of.start);
   began = of.began ∙ sym of.epoch;

@@ -17,7 +17,7 @@ use Rattle.yard_model.specs.Outcomes.{NoneWaits, SomeWaits}
 use Rattle.plain_yard.specs.Opening.{commands_in}
 use Rattle.plain_yard.specs.Shown.{IsLawfulYard}
 use Rattle.replay_model.specs.Replays.{ReplayState, AllTurnOff}
-use Rattle.replay_model.specs.Endings.{IsReportOf}
+use Rattle.replay_model.specs.Endings.{IsReportOfYard}
 use Rattle.script_run.specs.declared.ending.Space.{Space}
 
 -- empty lists with room for each command of these scripts, and for the number of each room
@@ -63,5 +63,5 @@ pub record Ends (dry : Bool) (s : ReplayState) (r : ReportState) (memory : List 
   pub off : AllTurnOff 0 (length s.workers) s last
   pub lawful : IsLawfulYard last.yard
   pub beginning : last.yard.beginning ≡ s.yard.beginning
-  pub report : IsReportOf last.yard r memory
+  pub report : IsReportOfYard last.yard r memory
   pub want : TellsWant dry r.outcome

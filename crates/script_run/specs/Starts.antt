@@ -11,7 +11,7 @@ use Rattle.yard_model.specs.Opens.{opening_view}
 use Rattle.room_yard.specs.World.{WorldState, Opens}
 use Rattle.worker_model.specs.Workers.{WorkerState, IsWorker}
 use Rattle.replay_model.specs.Replays.{ReplayState, Replays}
-use Rattle.replay_model.specs.Endings.{IsFreshStart, IsReportOf}
+use Rattle.replay_model.specs.Endings.{IsFreshStart, IsReportOfYard}
 use Rattle.replay_model.specs.Laws.{opening_replay}
 
 -- a start of these settings and scripts, of which no turn is made: the yard opens with its world, and each thread has a worker
@@ -35,4 +35,4 @@ pub record IsReplayOf (settings : Settings) (scripts : Scripts) (schedule : List
   pub last : ReplayState
   pub start : IsStartOf settings scripts first
   pub replays : Replays r.outcome schedule first last
-  pub report : IsReportOf last.yard r memory
+  pub report : IsReportOfYard last.yard r memory

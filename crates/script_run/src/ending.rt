@@ -13,7 +13,7 @@ ghost use Rattle.plain_yard.specs.Shown.{NoneHolds, IsLawfulYard};
 ghost use Rattle.script_text.specs.ReportText.{report_of};
 ghost use Rattle.replay_model.specs.Replays.{AllTurnOff};
 ghost use Rattle.replay_model.specs.Kept.{IsReplay};
-ghost use Rattle.replay_model.specs.Endings.{IsReportOf};
+ghost use Rattle.replay_model.specs.Endings.{IsReportOfYard};
 ghost use Rattle.script_run.specs.Runs.{HaveDone};
 ghost use Rattle.script_run.specs.Ends.{HasSpace, waits_in, TellsWaiting, TellsWant, outcome_of, Ends};
 
@@ -141,7 +141,7 @@ impl Replay {
         requires epoch { self.yard.beginning.epoch ≡ 1 }
         requires marks { marks.items ≡ reported (opening_of self.yard.beginning) (marks_of self.yard.beginning self.yard.told.checkpoints) }
         requires space { HasSpace self.yard.beginning.settings self.yard.beginning.scripts space }
-        ensures report { IsReportOf self.yard (report_of result.report) result.memory }
+        ensures report { IsReportOfYard self.yard (report_of result.report) result.memory }
         ensures want { TellsWant dry result.report.outcome }
         ensures flushed { result.report.flushed ≡ all_write_backs result.memory }
     {
