@@ -1,4 +1,4 @@
-mod Sums
+pub mod Sums
 mod Spends
 mod GoesOn
 mod Seldom

@@ -16,8 +16,8 @@
 //! the life is over, and the stated numbers of rounds end it. Without a take the closings are at most as many as the entries, else two for each
 //! entry and one for each thread.
 //!
-//! What is sound is a premise, at each progress that a turn leads to: no law here says that an event keeps it. That a replay of workers shows
-//! such a progress, that this is sound, and that each turn of a worker is an event or a rest of it, is not proved yet, and is for a crate
+//! What is sound is a premise, at each progress that a turn leads to: no law here says that an event keeps it. A lawful yard shows a progress
+//! that is sound, as `yard_progress` proves. That each turn of a worker is an event of it or a rest is not proved yet, and is for a crate
 //! above. The end of the power, want of memory, and a room that is given up are no part of a progress.
 #![tactic(auto)]
 
