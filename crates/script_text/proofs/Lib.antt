@@ -12,6 +12,7 @@ pub mod CommandLaws
 pub mod SectionLaws
 pub mod WholeLaws
 pub mod Readings
+pub mod RefusalLaws
 pub mod PrintLaws
 pub mod MarkLaws
 pub mod ReportLaws

@@ -4,7 +4,7 @@ use Rattle.script_text.specs.declared.fault.ScriptFault.{ScriptFault}
 use Rattle.script_text.specs.declared.fault.ScriptRefusal.{ScriptRefusal}
 use Rattle.script_text.specs.declared.fault.ScriptRefusal.TheVariants as refusals
 
--- the text is no text of a script of the form built so far
+-- the text is that of a script which is not carried out yet
 abbrev pub not_built : ℕ
 not_built = 0
 

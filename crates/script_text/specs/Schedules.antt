@@ -11,6 +11,13 @@ abbrev pub drawn_turns : ℕ → ℕ → ℕ → ℕ → List ℕ
 drawn_turns threads seed turn zero = []
 drawn_turns threads seed turn (suc n) = (word_drawn seed turn % threads) ∷ drawn_turns threads seed (suc turn) n
 
+-- the turns are those of a schedule, and threads do not run by themselves
+abbrev pub AreScheduled : Turns → Type 0
+AreScheduled (round_robin n) = Unit {0}
+AreScheduled (seeded seed n) = Unit {0}
+AreScheduled (listed threads) = Unit {0}
+AreScheduled (live n) = ⊥
+
 -- the threads that the turns name, for so many threads; threads that run by themselves have no turns
 abbrev pub schedule_of : ℕ → Turns → List ℕ
 schedule_of threads (round_robin n) = in_turn threads 0 n

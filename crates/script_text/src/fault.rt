@@ -6,7 +6,7 @@ ghost use Rattle.script_text.specs.Faults.{kind_text};
 
 use std::alloc::{AllocError, AllocFailed};
 
-/// The text is no text of a script of the form built so far.
+/// The script is not carried out yet.
 pub const NOT_BUILT: u32 = 0;
 /// The first line is not the head.
 pub const HEAD: u32 = 1;

@@ -4,8 +4,14 @@
 ghost use Rattle.std.specs.Prelude.{◌≡◌};
 ghost use Rattle.script_text.specs.Program.{Program};
 ghost use Rattle.script_text.specs.Text.{HasText, text_of};
+ghost use Rattle.script_text.specs.Built.{RefusalLaw};
 
 /// One text is the text of one program.
 pub fn one_program()
     ensures { (p q : Program) → HasText p → HasText q → text_of p ≡ text_of q → p ≡ q }
+{}
+
+/// A text is that of a script which is carried out, or it is refused for one fault.
+pub fn one_refusal()
+    ensures { RefusalLaw }
 {}

@@ -7,8 +7,9 @@
 //! from the front.
 //!
 //! Proved here: `read_script` gives a script exactly where the bytes are its text, and else the first fault by line and kind;
-//! `parse` does the same for the form of script that is built so far, and refuses every other text as line 0 and kind 0; `print`,
-//! `report_text` and `state_text` write the one text; two programs never have one text. Want of memory stands beside each.
+//! `parse` does the same, but for a script whose threads run by themselves, which it refuses as line 0 and kind 0; a text is carried
+//! out or refused for one fault; `print`, `report_text` and `state_text` write the one text; two programs never have one text. Want
+//! of memory stands beside each.
 //! Proved only above: that a report is that of a life, so that its marks' epochs follow one another and its numbers are small.
 //! Only tested: that an ample memory suffices. Each byte of a text is looked at a fixed number of times.
 #![tactic(auto)]
@@ -35,7 +36,7 @@ mod whole;
 
 pub use built::parse;
 pub use fault::{ScriptFault, ScriptRefusal, kind_name};
-pub use laws::one_program;
+pub use laws::{one_program, one_refusal};
 pub use mode::Mode;
 pub use printing::print;
 pub use report::Report;

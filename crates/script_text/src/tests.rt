@@ -2,7 +2,7 @@
 
 use crate::built::parse;
 use crate::fault::{ScriptFault, ScriptRefusal, kind_name};
-use crate::laws::one_program;
+use crate::laws::{one_program, one_refusal};
 use crate::printing::print;
 use crate::report::Report;
 use crate::reporting::report_text;
@@ -17,9 +17,9 @@ use std::test::Fail;
 const BASE: &str =
     "respct 1\nthreads 2\nshards 1\nlines 16\nevery 1\nturns rr 5\nkeep none\nthread 0\nput 1 2\ndeq\nthread 1\nget 7\nend\n";
 
-// A text of the form that is built.
-const BUILT: &str =
-    "respct 1\nthreads 1\nshards 1\nlines 16\nevery 1\nturns rr 384\nkeep none\nthread 0\nput 5 7\nget 5\nend\n";
+// The text of one put.
+const ONE_PUT: &str =
+    "respct 1\nthreads 1\nshards 1\nlines 16\nevery 1\nturns rr 384\nkeep none\nthread 0\nput 5 7\nend\n";
 
 // A line and a kind, which tests compare.
 type Place = (u32, u32);
@@ -186,37 +186,55 @@ fn prints_what_it_read(rt: HostRuntime) -> Result<(), Fail> {
     Ok(())
 }
 
-// Each row: the number of a line of a text of the form that is built, another line in its place, and the fault.
+// The fault that the reader of what is carried out gives, where it gives one.
+fn parse_fault(alloc: Global, text: &str) -> Place {
+    place_of(parse(alloc, text.as_bytes()))
+}
+
+// Each row: the number of a line of the text of one put, another line in its place, and the fault.
 #[test]
-fn form_that_is_built(rt: HostRuntime) -> Result<(), Fail> {
+fn scripts_that_are_carried_out(rt: HostRuntime) -> Result<(), Fail> {
     let alloc = rt.alloc();
-    let rows: [(usize, &str, Place); 20] = [
-        (4, "lines 65536", NO_FAULT),
-        (5, "every 1024", NO_FAULT),
-        (6, "turns rr 384", NO_FAULT),
-        (6, "turns rr 0", NO_FAULT),
-        (6, "turns rr 10000000", NO_FAULT),
-        (7, "keep all", NO_FAULT),
-        (10, "del 5", NO_FAULT),
-        (10, "enq 5", NO_FAULT),
-        (10, "deq", NO_FAULT),
-        (9, "enq 5\ndel 5\ndeq", NO_FAULT),
-        (3, "shards 2", (0, 0)),
-        (6, "turns seed 1 384", (0, 0)),
-        (6, "turns list 0 0", (0, 0)),
+    let rows: [(usize, &str, Place); 13] = [
+        (3, "shards 8", NO_FAULT),
+        (6, "turns seed 1 384", NO_FAULT),
+        (6, "turns list 0 0", NO_FAULT),
         (6, "live 384", (0, 0)),
+        (6, "live 10000001", (6, 4)),
+        (6, "turns rr 10000001", (6, 4)),
         (7, "keep seed 1", NO_FAULT),
-        (7, "keep list 0:1", NO_FAULT),
-        (9, "take", (0, 0)),
-        (10, "take", (0, 0)),
-        (6, "turns rr 10000001", (0, 0)),
-        (10, "get 05", (0, 0)),
+        (9, "take", NO_FAULT),
+        (9, "get 05", (9, 3)),
+        (9, "put 18446744073709551616 1", (9, 3)),
+        (10, "thread 1\nend", (10, 7)),
+        (2, "threads 2", (10, 7)),
+        (10, "deq", (11, 10)),
     ];
     for (number, with, fault) in rows {
-        let text = text_with(alloc, BUILT, number, with)?;
-        assert_eq!(rt; place_of(parse(alloc, text.as_bytes())), fault, "{with}");
+        let text = text_with(alloc, ONE_PUT, number, with)?;
+        assert_eq!(rt; parse_fault(alloc, text.as_str()), fault, "{with}");
     }
-    assert_eq!(rt; place_of(parse(alloc, BASE.as_bytes())), (0, 0));
+    Ok(())
+}
+
+#[test]
+fn scripts_of_two_threads(rt: HostRuntime) -> Result<(), Fail> {
+    let alloc = rt.alloc();
+    let rows: [(&str, Place); 3] = [
+        (BASE, NO_FAULT),
+        (
+            "respct 1\nthreads 2\nshards 1\nlines 16\nevery 1\nturns rr 0\nkeep none\nthread 0\nthread 2\nend\n",
+            (9, 7),
+        ),
+        (
+            "respct 1\nthreads 1\nshards 1\nlines 16\nevery 1\nturns rr 384\nkeep none\nthread 0\nput 5 7\n",
+            (10, 10),
+        ),
+    ];
+    for (text, fault) in rows {
+        assert_eq!(rt; parse_fault(alloc, text), fault, "{text}");
+    }
+    one_refusal();
     Ok(())
 }
 
