@@ -1,20 +1,12 @@
 -- Runs of a replay as the code makes them.
 use Rattle.std.specs.Prelude.{ℕ, ◌≤◌, Bool, true, false, List}
 use Rattle.std.specs.List.{All}
-use Rattle.script_text.specs.Program.{Turns, round_robin, seeded, listed, live}
 use Rattle.worker_model.specs.Workers.{WorkerState}
 use Rattle.replay_model.specs.Replays.{ReplayState, Runs, RunsDry}
 
 -- each worker has done at most so many events
 abbrev pub HaveDone : ℕ → ReplayState → Type 0
 HaveDone n s = All (λ (c : WorkerState). c.done ≤ n) s.workers
-
--- the turns are those of a schedule, and threads do not run by themselves
-abbrev pub AreReplayed : Turns → Type 0
-AreReplayed (round_robin n) = Unit {0}
-AreReplayed (seeded seed n) = Unit {0}
-AreReplayed (listed threads) = Unit {0}
-AreReplayed (live n) = ⊥
 
 -- the run ended by itself, or memory ran out
 abbrev pub RunsOrDries : Bool → List ℕ → ReplayState → ReplayState → Type 0

@@ -3,8 +3,8 @@
 ghost use Rattle.std.specs.Prelude.{IfOk};
 ghost use Rattle.script_text.specs.Program.{program_of, turns_of};
 ghost use Rattle.script_text.specs.ReportText.{report_of, AreMarksRising};
+ghost use Rattle.script_text.specs.Schedules.{AreScheduled};
 ghost use Rattle.script_text.specs.Text.{HasText};
-ghost use Rattle.script_run.specs.Runs.{AreReplayed};
 
 use crate::replay_start;
 use formatting::format;
@@ -21,7 +21,7 @@ use store_order::Choice;
 /// The script of a text, of which threads do not run by themselves.
 fn script_in(alloc: Global, text: &str) -> Result<Script, AllocError>
     ensures has_text { IfOk result (λ script. HasText (program_of script)) }
-    ensures replayed { IfOk result (λ script. AreReplayed (turns_of script.mode)) }
+    ensures replayed { IfOk result (λ script. AreScheduled (turns_of script.mode)) }
 {
     match read_script(alloc, text.as_bytes()) {
         Ok(script) if !matches!(script.mode, Mode::Live(_)) => Ok(script),

@@ -7,9 +7,8 @@ ghost use Rattle.life_model.specs.Life.{start_of};
 ghost use Rattle.life_model.specs.Told.{TellsOf};
 ghost use Rattle.script_text.specs.Program.{program_of, turns_of};
 ghost use Rattle.script_text.specs.ReportText.{report_of};
-ghost use Rattle.script_text.specs.Schedules.{schedule_of};
+ghost use Rattle.script_text.specs.Schedules.{AreScheduled, schedule_of};
 ghost use Rattle.script_text.specs.Text.{HasText};
-ghost use Rattle.script_run.specs.Runs.{AreReplayed};
 ghost use Rattle.script_run.specs.Starts.{IsReplayOf};
 
 use crate::ending::{Ended, Space};
@@ -28,7 +27,7 @@ pub fn replay_start(
     memory: &mut Memory,
 ) -> Result<Report, AllocError>
     requires script { HasText (program_of script.now) }
-    requires replayed { AreReplayed (turns_of script.now.mode) }
+    requires replayed { AreScheduled (turns_of script.now.mode) }
     requires formatted { memory.old ≡ formatted_memory (sizes_of script.now.settings) }
     // the report tells of a start of this script, and of the memory that it left
     ensures told { IfOk result (λ report. TellsOf (start_of script.now.settings (program_of script.now).threads) [] 0 (report_of report) memory.new) }
