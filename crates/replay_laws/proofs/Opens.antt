@@ -15,7 +15,7 @@ use Rattle.replay_model.specs.Laws.{opening_replay, OpensReplayLaw}
 
 module _ (b : Beginning) (w : WorldState) (workers : List WorkerState) (opens : Opens b w) (number : length workers ≡ b.settings.threads) where
   -- each thread's view is that of an opening
-  opening_at : (i : ℕ) → i < length workers → view_at (opening_replay b w workers).yard i ≡ opening_view b i
+  pub opening_at : (i : ℕ) → i < length workers → view_at (opening_replay b w workers).yard i ≡ opening_view b i
   opening_at i lt =
       let views = opens.yard.number_of_views in
       let t = there (opening_yard b w).views i (omega (arith, lt, number, views)) in

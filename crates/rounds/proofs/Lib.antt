@@ -2,5 +2,5 @@ pub mod Sums
 mod Spends
 mod GoesOn
 mod Seldom
-mod Enough
-mod Alone
+pub mod Enough
+pub mod Alone

@@ -1,3 +1,3 @@
-mod Shown
-mod Moves
-mod Rests
+pub mod Shown
+pub mod Moves
+pub mod Rests

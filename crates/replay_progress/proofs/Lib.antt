@@ -1,0 +1,12 @@
+mod Hands
+mod TurnRooms
+mod TurnFew
+mod TurnShown
+mod TurnKept
+mod TurnMakes
+mod TurnRoomEvents
+mod TurnHeld
+mod TurnEmpty
+mod TurnStanding
+mod TurnClosing
+mod Turn
