@@ -33,7 +33,7 @@ set_as_it_was [] i v at = refl
 set_as_it_was (x ∷ xs) zero v at = ap (λ (y : View). y ∷ xs) (sym (some-injective x v at))
 set_as_it_was (x ∷ xs) (suc i) v at = ap (λ (l : List View). x ∷ l) (set_as_it_was xs i v at)
 
-set_twice : (l : List View) (i : ℕ) (a c : View) → set (set l i a) i c ≡ set l i c
+pub set_twice : (l : List View) (i : ℕ) (a c : View) → set (set l i a) i c ≡ set l i c
 set_twice [] i a c = refl
 set_twice (x ∷ xs) zero a c = refl
 set_twice (x ∷ xs) (suc i) a c = ap (λ (l : List View). x ∷ l) (set_twice xs i a c)

@@ -1,4 +1,5 @@
 mod Hands
+mod Opening
 mod TurnRooms
 mod TurnFew
 mod TurnShown
@@ -10,3 +11,6 @@ mod TurnEmpty
 mod TurnStanding
 mod TurnClosing
 mod Turn
+mod Refused
+mod Runs
+mod Whole

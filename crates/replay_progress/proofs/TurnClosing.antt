@@ -57,6 +57,7 @@ use Rattle.worker_model.specs.declared.hand.Turn.{Turn}
 use Rattle.worker_model.specs.Workers.{WorkerState, IsWorker, HandFits, IsClosing, ahead}
 use Rattle.worker_model.specs.Turns.{did, closed_by, ClosesOn}
 use Rattle.replay_model.specs.Replays.{ReplayState}
+use Rattle.replay_laws.proofs.Answered.{set_twice}
 use Rattle.rounds.specs.Progress.{AtPoint, OnClosing, SharedProgress}
 use Rattle.rounds.specs.Events.{ClosesFurther, ClosesNextRoom, ReleasesEpoch, at_stage, one_room_more, shared_behind}
 use Rattle.rounds.proofs.Sums.{total-has}
@@ -106,12 +107,6 @@ module _ (b : Beginning) (w : YardState) (h : List Entry) (cs : List Checkpoint)
         let few = few_closings in
         omega (arith, here, few)
   ]
-
--- what is set twice is what was set last
-set_twice : (l : List View) (i : ℕ) (a c : View) → set (set l i a) i c ≡ set l i c
-set_twice [] i a c = refl
-set_twice (x ∷ xs) zero a c = refl
-set_twice (x ∷ xs) (suc i) a c = ap (λ (l : List View). x ∷ l) (set_twice xs i a c)
 
 -- WHAT A STEP LEAVES IN HAND.
 record IsTaken (x : Room) (hand : InClosing) : Type 0 where

@@ -17,8 +17,8 @@
 //! entry and one for each thread.
 //!
 //! What is sound is a premise, at each progress that a turn leads to: no law here says that an event keeps it. A lawful yard shows a progress
-//! that is sound, as `yard_progress` proves. That each turn of a worker is an event of it or a rest is not proved yet, and is for a crate
-//! above. The end of the power, want of memory, and a room that is given up are no part of a progress.
+//! that is sound, as `yard_progress` proves, and each turn of a worker is an event of it or a rest, as `replay_progress` proves. The end of the
+//! power, want of memory, and a room that is given up are no part of a progress.
 #![tactic(auto)]
 
 mod closings;

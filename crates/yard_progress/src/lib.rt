@@ -11,9 +11,9 @@
 //! lock taken, some thread holds a room; a leave, a draw and a release are events of the progress; and any other step that changes one view
 //! changes the progress of that thread alone, beside the write-backs.
 //!
-//! What the hands show is a premise: that a replay shows such hands at each turn, and that each turn of a worker is an event or a rest, is not
-//! proved here, and is for a crate above. So are the write-backs, which are any number here that is small enough; how few they are in a
-//! lawful yard is a law of `yard_laws`.
+//! What the hands show is a premise here: that a replay shows such hands at each turn, and that each turn of a worker is an event or a rest, is
+//! proved in `replay_progress`. So are the write-backs, which are any number here that is small enough; how few they are in a lawful yard is a
+//! law of `yard_laws`.
 #![tactic(auto)]
 
 mod going;
