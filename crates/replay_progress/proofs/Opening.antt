@@ -1,11 +1,9 @@
 -- A replay that opens goes on right.
-use Rattle.std.proofs.Common.{◌≡◌, ◌≢◌, ℕ, zero, ◌-◌, ◌^◌, ◌<◌, ◌⊎◌, List, length, Option, Some, None, refl, sym, ap, ◌∙◌, inl, inr, arith}
-use Rattle.std.specs.Prelude.{slice_get, is_none}
+use Rattle.std.proofs.Common.{◌≡◌, ◌≢◌, ℕ, ◌-◌, ◌^◌, ◌<◌, List, length, Some, refl, sym, ap, ◌∙◌, arith}
+use Rattle.std.specs.Prelude.{slice_get}
 use Rattle.std.proofs.lemmas.Option.{none-some, slice_get_within}
 use Rattle.seq_object.specs.Sizes.{thread_room, room_count}
-use Rattle.seq_object.specs.History.{total}
 use Rattle.seq_object.proofs.Totals.{total-same, total_none}
-use Rattle.seq_object.specs.declared.command.Command.{Command}
 use Rattle.restart_point.specs.declared.thread_end.ThreadEnd.{ThreadEnd}
 use Rattle.restart_point.specs.declared.thread_end.ThreadEnd.TheVariants.{Ready, Waits, Ended}
 use Rattle.rooms.specs.declared.room.Room.{Room}

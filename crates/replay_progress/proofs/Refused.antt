@@ -1,5 +1,5 @@
 -- A turn that meets want of memory draws nothing and releases nothing.
-use Rattle.std.proofs.Common.{◌≡◌, ◌⊎◌, inl, inr, Bool, true, false, Option, Some, Ok, Err, arith}
+use Rattle.std.proofs.Common.{◌≡◌, inl, inr, Bool, true, false, Option, Some, Ok, Err, arith}
 use Rattle.std.specs.Prelude.{nat_lt}
 use Rattle.std.specs.declared.alloc.AllocError.{AllocError}
 use Rattle.seq_object.specs.declared.command.Command.{Command}
@@ -21,7 +21,6 @@ use Rattle.worker_model.specs.declared.hand.Turn.TheVariants.{Did, Over}
 use Rattle.worker_model.specs.Workers.{WorkerState}
 use Rattle.worker_model.specs.Turns.{GoesOnCommand, GoesOnOwn, Starves, GoesOnEmpty, LacksRoom, RestsAndClaims, GoesOnStanding, may_command, WithNothing, WithHand, TakesTurn}
 use Rattle.plain_yard.specs.Shown.{view_at}
-use Rattle.replay_model.specs.Replays.{ReplayState, TurnOf}
 use Rattle.replay_laws.proofs.Answered.{IsQuiet, leave_rests, locked, turned_off, locked_thread, rested_thread, quiet_twice}
 use Rattle.replay_progress.specs.Laws.{RefusedTurnLaw}
 

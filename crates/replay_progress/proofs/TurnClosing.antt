@@ -1,5 +1,5 @@
 -- The rows of a thread that closes an epoch.
-use Rattle.std.proofs.Common.{◌≡◌, ◌≢◌, ℕ, zero, suc, ◌-◌, ◌+◌, ◌*◌, ◌≤◌, ◌<◌, ◌^◌, ◌⊎◌, inl, inr, cond, Bool, true, false, List, [], ◌∷◌, ◌++◌, length, set, Option, Some, None, Result, refl, sym, ap, ◌∙◌, subst, arith, length-append}
+use Rattle.std.proofs.Common.{◌≡◌, ◌≢◌, ℕ, suc, ◌-◌, ◌+◌, ◌*◌, ◌≤◌, ◌<◌, ◌^◌, ◌⊎◌, inl, inr, cond, Bool, true, false, List, [], ◌∷◌, ◌++◌, length, set, Option, Some, None, Result, refl, sym, ap, ◌∙◌, subst, arith, length-append}
 use Rattle.std.specs.declared.alloc.AllocError.{AllocError}
 use Rattle.std.proofs.lemmas.Bool.{le-leb, lt-leb, cases_lt}
 use Rattle.seq_object.specs.declared.history.Entry.{Entry}
@@ -17,7 +17,7 @@ use Rattle.block_allow.specs.declared.judgement.Verdict.{Verdict}
 use Rattle.block_allow.specs.Verdicts.{leaves}
 use Rattle.rooms.specs.declared.room.Room.{Room}
 use Rattle.rooms.specs.declared.room.Room.TheVariants.{Map, Queue, Thread, Super}
-use Rattle.rooms.specs.Rooms.{bank_of, end_of, HasCells}
+use Rattle.rooms.specs.Rooms.{bank_of, end_of}
 use Rattle.yard_model.specs.declared.view.Phase.TheVariants.{Standing}
 use Rattle.yard_model.specs.declared.view.Beginning.{Beginning}
 use Rattle.yard_model.specs.declared.view.View.{View}
@@ -46,8 +46,7 @@ use Rattle.coordinator.specs.declared.hand.Hand.TheVariants.{Empty as NextRoom, 
 use Rattle.coordinator.specs.declared.closer.CloseStep.{CloseStep}
 use Rattle.coordinator.specs.declared.closer.CloseStep.TheVariants.{Did as ClosingWent, Released}
 use Rattle.coordinator.specs.Closers.{CloserState, HandIs, Holds, with_hand}
-use Rattle.coordinator.specs.declared.learnt.Learnt.{Learnt}
-use Rattle.coordinator.specs.Learnts.{learnt_with, ends_life}
+use Rattle.coordinator.specs.Learnts.{ends_life}
 use Rattle.coordinator.specs.Steps.{begun_hand, taken_hand, written_hand, one_done, DoesRow, DoesEpoch, StepIs, EndsRoom, Releases, TakesRoom, WritesLine}
 use Rattle.coordinator.proofs.Ended.{one_more}
 use Rattle.coordinator.proofs.Verdicts.{ends_where_none_leaves}

@@ -9,8 +9,6 @@ use Rattle.seq_object.specs.Sizes.{sizes_of, super_room}
 use Rattle.seq_object.specs.History.{of_room}
 use Rattle.epoch_word.specs.declared.stage.EpochStage.{EpochStage}
 use Rattle.epoch_word.specs.declared.stage.EpochStage.TheVariants.{Before, Stored, AskedFor, InMemory}
-use Rattle.incll_var.specs.declared.state.CellState.{CellState}
-use Rattle.incll_var.specs.declared.state.CellState.TheVariants.{Torn, Running as RunningCells, Closing as ClosingCells, Saved}
 use Rattle.rooms.specs.declared.room.Room.{Room}
 use Rattle.rooms.specs.declared.room.Room.TheVariants.{Map, Queue, Thread, Super}
 use Rattle.rooms.specs.Rooms.{bank_of, history_of, state_of, lines_unasked}

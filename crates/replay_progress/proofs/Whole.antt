@@ -1,5 +1,5 @@
 -- A run of a replay in the progress that it shows, and where it ends.
-use Rattle.std.proofs.Common.{◌≡◌, ℕ, ◌+◌, ◌*◌, ◌≤◌, Bool, true, false, List, [], ◌∷◌, length, Some, Ok, refl, sym, ap, ◌∙◌, subst, inl, inr, arith}
+use Rattle.std.proofs.Common.{◌≡◌, ℕ, ◌+◌, ◌*◌, ◌≤◌, List, [], ◌∷◌, length, Some, refl, sym, ap, ◌∙◌, subst, inl, inr, arith}
 use Rattle.std.specs.Prelude.{slice_get}
 use Rattle.std.specs.List.{All}
 use Rattle.std.proofs.lemmas.Bool.{cases_Bool}
@@ -8,13 +8,13 @@ use Rattle.seq_object.specs.declared.command.Command.{Command}
 use Rattle.seq_object.specs.Object.{IsTakeless}
 use Rattle.seq_object.specs.declared.sizes.Sizes.{Sizes}
 use Rattle.life_model.specs.Life.{script_of, place_after}
-use Rattle.life_model.specs.Work.{HasNoTake, ClosesSeldom}
+use Rattle.life_model.specs.Work.{HasNoTake}
 use Rattle.yard_model.specs.declared.view.Beginning.{Beginning}
 use Rattle.yard_model.specs.declared.view.Checkpoint.{Checkpoint}
 use Rattle.yard_model.specs.Beginnings.{opening_of, sizes_at, is_over}
 use Rattle.yard_model.specs.WriteBacks.{rise_of}
 use Rattle.yard_laws.proofs.Legal.{closings_same, closes_once_per_entry}
-use Rattle.replay_model.specs.Replays.{ReplayState, TurnOf, is_over_in}
+use Rattle.replay_model.specs.Replays.{ReplayState, is_over_in}
 use Rattle.replay_model.specs.Kept.{IsReplay}
 use Rattle.rounds.specs.Progress.{Progress}
 use Rattle.rounds.specs.Events.{MakesTurn, Progresses}
@@ -52,9 +52,17 @@ module _ (b : Beginning) (meets : Progress → Type 0)
         let begun : first.1.yard.beginning ≡ b = first.2.beginning ∙ same in
         let makes : MakesTurn (sizes_at b) b.settings.every i (shown_by s (rise_of b right.counts)) (shown_by first.1 (rise_of b shown.0.counts)) =
         subst (λ (c : Beginning). MakesTurn (sizes_at c) c.settings.every i (shown_by s (rise_of c right.counts)) (shown_by first.1 (rise_of c shown.0.counts))) same shown.1 in
-        let rest = run is first.1 t begun first.3.0 shown.0 first.3.1 in
-        (rest.0, rest.1, (rest.2.0, inr (sym (over_shown s replay) ∙ on,
-        (shown_by first.1 (rise_of b shown.0.counts), makes, each first.1 begun first.3.0 shown.0, rest.2.1))))
+        let rest = run is first.1 t begun first.3.0 shown.0 first.3.1 in (
+          rest.0,
+          rest.1,
+          (
+            rest.2.0,
+            inr (
+              sym (over_shown s replay) ∙ on,
+              (shown_by first.1 (rise_of b shown.0.counts), makes, each first.1 begun first.3.0 shown.0, rest.2.1),
+            ),
+          ),
+        )
   ]
 
 -- EACH STATE shows a sound progress.
@@ -80,8 +88,10 @@ run_is_shown s t turns replay right kept =
     run s.yard.beginning
     (λ (u : Progress). IsSound (sizes_at s.yard.beginning) s.yard.beginning.settings.every (all_commands s.yard.beginning) u
     × (HasNoTake (opening_of s.yard.beginning) → NoneTakes (sizes_at s.yard.beginning) u))
-    (λ m same replay' right'. (state_sound s.yard.beginning m same replay' right',
-    λ takeless. state_takeless s.yard.beginning m (sizes_at s.yard.beginning) (rise_of s.yard.beginning right'.counts) same takeless))
+    (λ m same replay' right'. (
+      state_sound s.yard.beginning m same replay' right',
+      λ takeless. state_takeless s.yard.beginning m (sizes_at s.yard.beginning) (rise_of s.yard.beginning right'.counts) same takeless,
+    ))
     turns s t refl replay right kept
 
 -- WHOLE SCHEDULES.
