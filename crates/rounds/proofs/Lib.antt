@@ -3,4 +3,4 @@ mod Spends
 mod GoesOn
 mod Seldom
 pub mod Enough
-pub mod Alone
+mod Alone
