@@ -12,3 +12,6 @@ pub mod Opens
 pub mod Worlds
 pub mod TornCounts
 pub mod TestImages
+pub mod Told
+pub mod WorldMemory
+pub mod Places

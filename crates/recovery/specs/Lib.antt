@@ -4,3 +4,4 @@ pub mod Banks
 pub mod Ends
 pub mod Laws
 pub mod Kept
+pub mod Told

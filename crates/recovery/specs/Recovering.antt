@@ -1,5 +1,5 @@
 -- A recovery as plain data, and what holds of it between two events.
-use Rattle.std.specs.Prelude.{◌≡◌, ℕ, suc, ◌+◌, ◌-◌, ◌*◌, ◌^◌, ◌<◌, ◌≤◌, List, [], ◌∷◌, length, map, slice_set, if◌then◌else◌}
+use Rattle.std.specs.Prelude.{◌≡◌, ℕ, zero, suc, ◌+◌, ◌-◌, ◌*◌, ◌^◌, ◌<◌, ◌≤◌, List, [], ◌∷◌, length, map, slice_set, if◌then◌else◌}
 use Rattle.seq_object.specs.declared.settings.Settings.{Settings}
 use Rattle.seq_object.specs.declared.sizes.Sizes.{Sizes}
 use Rattle.seq_object.specs.Sizes.{AreValid, thread_room, super_room, room_count}
@@ -94,6 +94,11 @@ stepped_in InMemory r = r
 
 abbrev pub stepped : RecoveryState → RecoveryState
 stepped r = stepped_in r.stage r
+
+-- the recovery behind its next so many events
+abbrev pub behind_events : ℕ → RecoveryState → RecoveryState
+behind_events zero r = r
+behind_events (suc n) r = stepped (behind_events n r)
 
 -- what a step says that leads to this stage
 abbrev pub step_to : EpochStage → RecoverStep

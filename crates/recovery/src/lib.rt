@@ -18,7 +18,7 @@
 //! (`IsRecovery`); the recovery itself knows no script. Each call is one named function from the old state to the new one.
 //!
 //! Proved here: which events come, in which order, and how many; that behind each of them the memory is safe at a power cut; that few
-//! lines are written back; and that the world at the end is one that each life of these scripts that resumes from the image opens
+//! lines are written back; that the report of a life that was cut in it tells of the life; from which place each thread goes on; and that the world at the end is one that each life of these scripts that resumes from the image opens
 //! with. The steps need nothing of scripts but their lengths, at the end. Only tested: the words, the loads and the
 //! counts behind each event of three images by hand. Neither proved nor tested: when the begin finds no memory.
 #![tactic(auto)]
@@ -27,13 +27,16 @@ mod begin;
 mod end;
 mod epoch;
 mod laws;
+mod place;
 mod recovery;
 mod restores;
 
 pub use epoch_word::EpochStage;
 pub use laws::{
-    recovery_goes_on_law, recovery_opens_law, recovery_safe_law, recovery_write_backs_law,
+    recovery_goes_on_law, recovery_opens_law, recovery_safe_law, recovery_told_law,
+    recovery_write_backs_law,
 };
+pub use place::place_in;
 pub use recovery::{RecoverStep, Recovery};
 
 #[cfg(test)]

@@ -2,7 +2,7 @@
 
 ghost use Rattle.std.specs.Prelude.{◌≡◌, ◌≢◌, ◌+◌, ◌^◌, ◌<◌, ◌↔◌, [], length, IsTrue, IfOk};
 ghost use Rattle.seq_object.specs.Sizes.{sizes_of};
-ghost use Rattle.line_memory.specs.Line.{IsQuiet};
+ghost use Rattle.line_memory.specs.Line.{IsQuiet, all_lines};
 ghost use Rattle.room_model.specs.MapRoom.{live_layout};
 ghost use Rattle.room_model.specs.Image.{image_of, nothing_kept, epoch_at, IsLawful};
 ghost use Rattle.life_model.specs.Life.{Opening, sizes};
@@ -164,6 +164,8 @@ impl Recovery {
         requires finished { self.stage ≡ stages.InMemory }
         requires lengths { length lengths.now ≡ self.settings.threads }
         ensures is { IsWorldOf self lengths.now result }
+        ensures memory { memory_of result.rooms ≡ memory_of self.rooms }
+        ensures fits { (length result.rooms < 2 ^ 32) × (all_lines (memory_of result.rooms) < 2 ^ 32) }
         ensures opens { (b : Beginning) → IsRecovery (opening_of b) self → b.write_backs ≡ write_backs_of self.rooms → AreLengthsOf b lengths.now → IsBeginning b → Opens b result }
     {
         let Recovery {

@@ -4,13 +4,14 @@ use Rattle.std.proofs.lemmas.List.{get_or_default}
 use Rattle.rooms.specs.declared.room.Room.{Room}
 use Rattle.rooms.specs.Rooms.{bank_of, is_empty_queue}
 use Rattle.room_model.specs.EpochLine.{loaded_epoch}
-use Rattle.room_yard.specs.World.{WorldState}
+use Rattle.room_yard.specs.World.{WorldState, memory_of}
 use Rattle.room_yard.specs.Answers.{next_word}
 use Rattle.recovery.specs.Restored.{no_room, room_at}
-use Rattle.recovery.specs.Recovering.{RecoveryState, last_of}
+use Rattle.recovery.specs.Recovering.{RecoveryState, IsRecovery, last_of}
 use Rattle.recovery.specs.Ends.{AreTold, are_at_end}
 use Rattle.recovery.specs.Laws.{IsWorldOf}
 use Rattle.recovery.proofs.Endings.{last_line, last_fits, queue_line, queue_within, here_in}
+use Rattle.recovery.proofs.WorldMemory.{memory_told, memory_fits}
 use Rattle.recovery.proofs.Worlds.{world_opens}
 use Rattle.recovery.proofs.recovery.Recovery.into_world.Goals as goal
 
@@ -54,6 +55,16 @@ world_is c =
 
 pub returns-clause-is : goal.returns-clause-is
 returns-clause-is c = subst (λ (r : RecoveryState). IsWorldOf r c.args.lengths.now c.of.result) c.self.view_is (world_is c)
+
+memory_is : (c : goal.After-of) → memory_of c.of.result.rooms ≡ memory_of c.args.self.rooms
+memory_is c = let world = subst (λ (r : RecoveryState). IsWorldOf r c.args.lengths.now c.of.result) c.self.view_is (world_is c) in
+    memory_told c.args.self.settings.shards c.args.lengths.now c.args.self.settings.threads c.args.self.rooms c.of.result.rooms world.told
+
+pub returns-clause-memory : goal.returns-clause-memory
+returns-clause-memory c = memory_is c
+
+pub returns-clause-fits : goal.returns-clause-fits
+returns-clause-fits c = memory_fits c.self.invariant.some c.args.self c.of.result.rooms (subst (λ (r : RecoveryState). IsRecovery c.self.invariant.some r) c.self.view_is c.self.invariant.about) (memory_is c)
 
 pub returns-clause-opens : goal.returns-clause-opens
 returns-clause-opens c = λ b is counts all begins.
