@@ -16,11 +16,11 @@ use Rattle.script_text.proofs.NumberLaws.{bind_ok, bind_to, guard_ok, ok_is, num
 use Rattle.script_text.proofs.LineLaws.{same_bytes, chosen}
 
 -- these are the words of a command
-abbrev AreCommand : List (List ℕ) → Command → Type 0
+abbrev pub AreCommand : List (List ℕ) → Command → Type 0
 AreCommand ws c = (ws ≡ command_words c) × IsCommand c
 
 -- a command that was read of one word has these words
-bare_ok : (line : ℕ) (a : List ℕ) (c : Command) → bare_command line a ≡ Ok c → AreCommand (a ∷ []) c
+pub bare_ok : (line : ℕ) (a : List ℕ) (c : Command) → bare_command line a ≡ Ok c → AreCommand (a ∷ []) c
 bare_ok line a c e =
     elim (chosen (bytes_eq a (codes "deq")) (Ok Deq) (cond (bytes_eq a (codes "take")) (Ok Take) (Err (fault line no_command))) (Ok c) e) [
       | inl p ↦ subst (AreCommand (a ∷ [])) (ok_is Deq c p.1) (ap (λ (v : List ℕ). v ∷ []) (same_bytes a (codes "deq") p.0), tt)
@@ -38,7 +38,7 @@ one_number line a b name make is c same e =
     subst (AreCommand (a ∷ b ∷ [])) (ok_is (make n.0) c n.2) (ap (λ (v : List ℕ). v ∷ b ∷ []) same ∙ ap (λ (v : List ℕ). name ∷ v ∷ []) got.0 ∙ whole.0, whole.1)
 
 -- a command that was read of two words has these words
-value_ok : (line : ℕ) (a b : List ℕ) (c : Command) → value_command line a b ≡ Ok c → AreCommand (a ∷ b ∷ []) c
+pub value_ok : (line : ℕ) (a b : List ℕ) (c : Command) → value_command line a b ≡ Ok c → AreCommand (a ∷ b ∷ []) c
 value_ok line a b c e =
     let enq_or : Result Command ScriptFault = cond (bytes_eq a (codes "enq")) (number_at line b >>= λ n. Ok (Enq n)) (Err (fault line no_command)) in
     let del_or : Result Command ScriptFault = cond (bytes_eq a (codes "del")) (number_at line b >>= λ n. Ok (Del n)) enq_or in
@@ -53,7 +53,7 @@ value_ok line a b c e =
     ]
 
 -- a command that was read of three words has these words
-pair_ok : (line : ℕ) (a k v : List ℕ) (c : Command) → pair_command line a k v ≡ Ok c → AreCommand (a ∷ k ∷ v ∷ []) c
+pub pair_ok : (line : ℕ) (a k v : List ℕ) (c : Command) → pair_command line a k v ≡ Ok c → AreCommand (a ∷ k ∷ v ∷ []) c
 pair_ok line a k v c e =
     let g = guard_ok (bytes_eq a (codes "put")) (number_at line k >>= λ x. number_at line v >>= λ y. Ok (Put x y)) (fault line no_command) c e in
     let x = bind_ok (number_at line k) _ c g.1 in
@@ -105,7 +105,7 @@ words_of_command : (c : Command) → IsCommand c → words (command_line c) ≡ 
 words_of_command c h = cut_words (command_words c) (some_words c) (command_solid c h)
 
 -- the words of a command are read as that command
-command_words_again : (line : ℕ) (c : Command) → IsCommand c → command_of_words line (command_words c) ≡ Ok c
+pub command_words_again : (line : ℕ) (c : Command) → IsCommand c → command_of_words line (command_words c) ≡ Ok c
 command_words_again line (Put k v) h =
     bind_to (number_at line (decimal k)) _ k (Ok (Put k v)) (number_again line k h.0) (bind_to (number_at line (decimal v)) _ v (Ok (Put k v)) (number_again line v h.1) refl)
 command_words_again line (Get k) h = bind_to (number_at line (decimal k)) _ k (Ok (Get k)) (number_again line k h) refl

@@ -16,3 +16,7 @@ pub mod RefusalLaws
 pub mod PrintLaws
 pub mod MarkLaws
 pub mod ReportLaws
+pub mod ReportSteps
+pub mod ReportEntryLaws
+pub mod ReportItemLaws
+pub mod ReportReadLaws

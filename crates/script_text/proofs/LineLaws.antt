@@ -101,7 +101,7 @@ line_with_again {X} of_words left x w ws more clear gives is some =
 -- ---- the settings
 
 -- a setting that was read has these words, within its limits
-setting_words_ok : (line : ℕ) (name : List ℕ) (low high : ℕ) (ws : List (List ℕ)) (n : ℕ) → setting_of_words line name low high ws ≡ Ok n → (ws ≡ setting_words name n) × (low ≤ n) × (n ≤ high)
+pub setting_words_ok : (line : ℕ) (name : List ℕ) (low high : ℕ) (ws : List (List ℕ)) (n : ℕ) → setting_of_words line name low high ws ≡ Ok n → (ws ≡ setting_words name n) × (low ≤ n) × (n ≤ high)
 setting_words_ok line name low high [] n e = absurd cc
 setting_words_ok line name low high (a ∷ []) n e = absurd cc
 setting_words_ok line name low high (a ∷ b ∷ []) n e =
@@ -111,12 +111,12 @@ setting_words_ok line name low high (a ∷ b ∷ []) n e =
 setting_words_ok line name low high (a ∷ b ∷ c ∷ ws) n e = absurd cc
 
 -- the words of a setting are read as that setting
-setting_words_again : (line : ℕ) (name : List ℕ) (low high n : ℕ) → n < 2 ^ 64 → low ≤ n → n ≤ high → setting_of_words line name low high (setting_words name n) ≡ Ok n
+pub setting_words_again : (line : ℕ) (name : List ℕ) (low high n : ℕ) → n < 2 ^ 64 → low ≤ n → n ≤ high → setting_of_words line name low high (setting_words name n) ≡ Ok n
 setting_words_again line name low high n small above below =
     ap (λ (b : Bool). cond b (limited_at line low high (decimal n)) (Err (fault line bad_setting))) (bytes_same name) ∙ limited_again line low high n small above below
 
 -- a setting that was read is written as the line that was taken
-setting_ok : (name : List ℕ) (low high : ℕ) (left : Left) (n : ℕ) (behind : Left) → setting_at name low high left ≡ Ok (n, behind)
+pub setting_ok : (name : List ℕ) (low high : ℕ) (left : Left) (n : ℕ) (behind : Left) → setting_at name low high left ≡ Ok (n, behind)
     → (left.pieces ≡ spaced (setting_words name n) ∷ behind.pieces) × (low ≤ n) × (n ≤ high)
 setting_ok name low high left n behind e =
     let t = line_with_ok (λ line. setting_of_words line name low high) left n behind e in
@@ -124,7 +124,7 @@ setting_ok name low high left n behind e =
     (t.takes ∙ ap (λ (ws : List (List ℕ)). spaced ws ∷ behind.pieces) w.0, w.1, w.2)
 
 -- the line of a setting is read as that setting
-setting_again : (name : List ℕ) (low high : ℕ) (left : Left) (n : ℕ) (more : List (List ℕ)) → AreFree 32 (setting_words name n) → n < 2 ^ 64 → low ≤ n → n ≤ high
+pub setting_again : (name : List ℕ) (low high : ℕ) (left : Left) (n : ℕ) (more : List (List ℕ)) → AreFree 32 (setting_words name n) → n < 2 ^ 64 → low ≤ n → n ≤ high
     → left.pieces ≡ spaced (setting_words name n) ∷ more → 0 < length more → setting_at name low high left ≡ Ok (n, record { pieces = more; line = left.line + 1 })
 setting_again name low high left n more clear small above below is some =
     line_with_again (λ line. setting_of_words line name low high) left n name (decimal n ∷ []) more clear (setting_words_again left.line name low high n small above below) is some
@@ -154,7 +154,7 @@ settings_ok left s behind e =
     subst (λ (x : Settings × Left). (left.pieces ≡ settings_lines x.0 ++ x.1.pieces) × IsValid x.0) same (taken, within)
 
 -- the words of a setting have no space
-clear_setting : (name : List ℕ) (n : ℕ) → free 32 name ≡ true → n < 2 ^ 64 → AreFree 32 (setting_words name n)
+pub clear_setting : (name : List ℕ) (n : ℕ) → free 32 name ≡ true → n < 2 ^ 64 → AreFree 32 (setting_words name n)
 clear_setting name n clear small = (clear, (free-decimal 32 n (λ h. omega arith) small, tt))
 
 -- the lines of valid settings are read as those settings

@@ -4,7 +4,7 @@ use Rattle.life_model.specs.declared.life.Mark.{Mark}
 use Rattle.life_model.specs.Life.{AreRising, lengths}
 
 -- they end above where they begin
-top : (low : ℕ) (ns : List ℕ) (high : ℕ) → AreRising low ns high → low ≤ high
+pub top : (low : ℕ) (ns : List ℕ) (high : ℕ) → AreRising low ns high → low ≤ high
 top low [] high h = h
 top low (n ∷ ns) high h = let rest : n ≤ high = top n ns high h.1 in omega (arith, rest, h.0)
 

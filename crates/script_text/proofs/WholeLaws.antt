@@ -28,7 +28,7 @@ all_fits s within =
     omega (arith, most, within.sizes.few_threads)
 
 -- where nothing more was read, the empty piece is all that is left
-nothing_ok : (ps : List (List ℕ)) (n : ℕ) (u : Unit {0}) → nothing_among ps n ≡ Ok u → ps ≡ [] ∷ []
+pub nothing_ok : (ps : List (List ℕ)) (n : ℕ) (u : Unit {0}) → nothing_among ps n ≡ Ok u → ps ≡ [] ∷ []
 nothing_ok [] n u e = absurd cc
 nothing_ok ([] ∷ []) n u e = refl
 nothing_ok ((b ∷ bs) ∷ []) n u e = absurd cc

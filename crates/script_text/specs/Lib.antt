@@ -14,4 +14,5 @@ pub mod Whole
 pub mod Built
 pub mod ReportText
 pub mod ReportLimits
+pub mod ReportReading
 pub mod StateText

@@ -24,8 +24,8 @@ pub fn command(text: &[u8], line: u32) -> Result<Command, ScriptFault>
     }
 }
 
-// A command of one word.
-fn bare(name: &[u8], line: u32) -> Result<Command, ScriptFault>
+/// A command of one word.
+pub fn bare(name: &[u8], line: u32) -> Result<Command, ScriptFault>
     ensures { result ≡ bare_command line name.now }
 {
     if is_word(name, "deq") {
@@ -40,8 +40,8 @@ fn bare(name: &[u8], line: u32) -> Result<Command, ScriptFault>
     })
 }
 
-// A command of a word and a number.
-fn with_value(name: &[u8], value: &[u8], line: u32) -> Result<Command, ScriptFault>
+/// A command of a word and a number.
+pub fn with_value(name: &[u8], value: &[u8], line: u32) -> Result<Command, ScriptFault>
     ensures { result ≡ value_command line name.now value.now }
 {
     if is_word(name, "get") {
@@ -59,8 +59,8 @@ fn with_value(name: &[u8], value: &[u8], line: u32) -> Result<Command, ScriptFau
     })
 }
 
-// A command of a word and two numbers.
-fn with_pair(name: &[u8], key: &[u8], value: &[u8], line: u32) -> Result<Command, ScriptFault>
+/// A command of a word and two numbers.
+pub fn with_pair(name: &[u8], key: &[u8], value: &[u8], line: u32) -> Result<Command, ScriptFault>
     ensures { result ≡ pair_command line name.now key.now value.now }
 {
     if is_word(name, "put") {

@@ -1,7 +1,7 @@
 //! Lines that are settled, and the lines of the settings.
 //! Each reader takes a place in the text and gives the place behind what it read.
 
-ghost use Rattle.std.specs.Prelude.{◌≡◌, ◌+◌, ◌<◌, ◌≤◌, ◌^◌, IfOk};
+ghost use Rattle.std.specs.Prelude.{◌≡◌, ◌+◌, ◌<◌, ◌≤◌, ◌^◌, length, IfOk};
 ghost use Rattle.script_text.specs.Faults.{Reads};
 ghost use Rattle.script_text.specs.Reading.{left_of};
 ghost use Rattle.script_text.specs.Pieces.{words};
@@ -18,6 +18,7 @@ use seq_object::{LEAST_LINES, MOST_EVERY, MOST_LINES, MOST_SHARDS, MOST_THREADS,
 pub fn fixed_line<'a>(place: Place<'a>, text: &str, kind: u32) -> Result<Place<'a>, ScriptFault>
     requires { place.line + 1 < 2 ^ 32 }
     ensures next { IfOk result (λ behind. behind.line ≡ place.entry.line + 1) }
+    ensures shorter { IfOk result (λ behind. length behind.rest.now < length place.entry.rest.now) }
     ensures reads { Reads left_of result (fixed_line_at kind text.now (left_of place.entry)) }
 {
     let (found, behind) = place.line()?;
@@ -30,8 +31,14 @@ pub fn fixed_line<'a>(place: Place<'a>, text: &str, kind: u32) -> Result<Place<'
     })
 }
 
-// A setting's number, of the words of its line.
-fn setting_of(text: &[u8], line: u32, name: &str, low: u32, high: u32) -> Result<u32, ScriptFault>
+/// A setting's number, of the words of its line.
+pub fn setting_of(
+    text: &[u8],
+    line: u32,
+    name: &str,
+    low: u32,
+    high: u32,
+) -> Result<u32, ScriptFault>
     ensures within { IfOk result (λ number. (low ≤ number) × (number ≤ high)) }
     ensures reads { result ≡ setting_of_words line name.now low high (words text.now) }
 {
@@ -52,8 +59,8 @@ fn setting_of(text: &[u8], line: u32, name: &str, low: u32, high: u32) -> Result
     }
 }
 
-// A setting, and the place behind its line.
-fn setting<'a>(
+/// A setting, and the place behind its line.
+pub fn setting<'a>(
     place: Place<'a>,
     name: &str,
     low: u32,
@@ -61,6 +68,7 @@ fn setting<'a>(
 ) -> Result<(u32, Place<'a>), ScriptFault>
     requires { place.line + 1 < 2 ^ 32 }
     ensures next { IfOk result (λ found. found.1.line ≡ place.entry.line + 1) }
+    ensures shorter { IfOk result (λ found. length found.1.rest.now < length place.entry.rest.now) }
     ensures within { IfOk result (λ found. (low ≤ found.0) × (found.0 ≤ high)) }
     ensures reads { Reads (λ found. (found.0, left_of found.1)) result (setting_at name.now low high (left_of place.entry)) }
 {

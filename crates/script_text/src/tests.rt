@@ -1,10 +1,14 @@
 //! What no clause says: worked texts with their faults, the texts of a small report and a small state, and that memory suffices.
 
+ghost use Rattle.std.specs.Prelude.{IfOk};
+ghost use Rattle.script_text.specs.ReportText.{report_of, AreMarksRising};
+
 use crate::built::parse;
 use crate::fault::{ScriptFault, ScriptRefusal, kind_name};
-use crate::laws::{one_program, one_refusal};
+use crate::laws::{one_program, one_refusal, report_text_law};
 use crate::printing::print;
 use crate::report::Report;
+use crate::report_reading::{ReportRefusal, read_report};
 use crate::reporting::report_text;
 use crate::script::Script;
 use crate::stating::state_text;
@@ -328,5 +332,107 @@ fn states(rt: HostRuntime) -> Result<(), Fail> {
     let text = state_text(alloc, 2, &[1, 0], &pairs, &[3, 4])?;
     let wanted = "respct-state 1\nepoch 2\nthread 0 1\nthread 1 0\nmap 5 7\nitem 3\nitem 4\nend\n";
     assert_eq!(rt; text.as_slice(), wanted.as_bytes());
+    Ok(())
+}
+
+// The report of one put, which is saved.
+const PUT_REPORT: &str =
+    "respct-report 1\nlife start\nbegan 1\nentry 0 0 put 5 7 = new\nsaved 2\nflushed 5\nend finished\n";
+
+// The report of a short text.
+fn report_in(alloc: Global, text: &str) -> Result<Report, ReportRefusal>
+    ensures rising { IfOk result (λ report. AreMarksRising (report_of report)) }
+{
+    if text.len() > 1000 {
+        return Err(ReportRefusal::OutOfMemory);
+    }
+    read_report(alloc, text.as_bytes())
+}
+
+// The line at which reading of a report fails; 0 where it does not, and 99 where memory ran out.
+fn fault_line(read: Result<Report, ReportRefusal>) -> u32 {
+    match read {
+        Ok(_) => 0,
+        Err(ReportRefusal::Fault(line)) => line,
+        Err(ReportRefusal::OutOfMemory) => 99,
+    }
+}
+
+#[test]
+fn a_report_and_back(rt: HostRuntime) -> Result<(), Fail> {
+    let alloc = rt.alloc();
+    match report_in(alloc, PUT_REPORT) {
+        Ok(report) => {
+            assert!(rt; !report.resumed);
+            assert_eq!(rt; report.began, 1);
+            assert_eq!(rt; report.entries.len(), 1);
+            assert_eq!(rt;
+                report.marks.as_slice(),
+                [Mark {
+                    epoch: 2,
+                    length: 1
+                }]
+                .as_slice()
+            );
+            assert_eq!(rt; report.flushed, 5);
+            let text = report_text(alloc, &report)?;
+            assert_eq!(rt; text.as_slice(), PUT_REPORT.as_bytes());
+        }
+        Err(_) => assert!(rt; false),
+    }
+    report_text_law();
+    Ok(())
+}
+
+// Each row: the number of a line of the report of one put, other lines in its place, and the line of the fault, 0 where there is none.
+#[test]
+fn faults_of_reports(rt: HostRuntime) -> Result<(), Fail> {
+    let alloc = rt.alloc();
+    let rows: [(usize, &str, u32); 14] = [
+        (1, "respct-report 2", 1),
+        (2, "life", 2),
+        (3, "began 0", 3),
+        (4, "entry 16 0 put 5 7 = new", 4),
+        (4, "entry 0 00 put 5 7 = new", 4),
+        (4, "entry 0 0 put +5 7 = new", 4),
+        (4, "entry 0 0 take = was 7", 0),
+        (5, "saved 3", 5),
+        (5, "saved 2\nsaved 3", 0),
+        (6, "held 3\nheld 2\nflushed 5", 7),
+        (6, "held 0\nheld 25\nflushed 5", 0),
+        (6, "flushed 18446744073709551616", 6),
+        (7, "end finished now", 7),
+        (7, "end cut\n", 8),
+    ];
+    for (number, with, line) in rows {
+        let text = text_with(alloc, PUT_REPORT, number, with)?;
+        assert_eq!(rt;
+            fault_line(read_report(alloc, text.as_bytes())),
+            line,
+            "{with}"
+        );
+    }
+    Ok(())
+}
+
+#[test]
+fn reports_that_end_too_soon(rt: HostRuntime) -> Result<(), Fail> {
+    let alloc = rt.alloc();
+    let rows: [(&str, u32); 4] = [
+        ("", 1),
+        ("respct-report 1\nlife start\nbegan 1\n", 4),
+        ("respct-report 1\nlife start\nbegan 1\nflushed 0\n", 5),
+        (
+            "respct-report 1\nlife start\nbegan 1\nflushed 0\nend cut",
+            5,
+        ),
+    ];
+    for (text, line) in rows {
+        assert_eq!(rt;
+            fault_line(read_report(alloc, text.as_bytes())),
+            line,
+            "{text}"
+        );
+    }
     Ok(())
 }

@@ -5,7 +5,7 @@ ghost use Rattle.std.specs.Prelude.{◌≡◌, ◌+◌, ◌<◌, ◌^◌, IfOk};
 ghost use Rattle.script_text.specs.Faults.{Gives, Reads};
 ghost use Rattle.script_text.specs.Reading.{left_of};
 ghost use Rattle.script_text.specs.Program.{Program, program_of};
-ghost use Rattle.script_text.specs.Whole.{program_at, program_in, end_at};
+ghost use Rattle.script_text.specs.Whole.{program_at, program_in, end_at, nothing_among};
 ghost use Rattle.script_text.specs.Text.{IsScriptText};
 
 use crate::fault::{AFTER, HEAD, ScriptFault, ScriptRefusal, THREAD};
@@ -67,11 +67,18 @@ fn end(place: Place<'_>) -> Result<(), ScriptFault>
     ensures { Reads (λ _. tt) result (end_at (left_of place.entry)) }
 {
     let behind = fixed_line(place, "end", THREAD)?;
-    if behind.rest.is_empty() {
+    nothing_behind(behind)
+}
+
+/// Nothing more.
+pub fn nothing_behind(place: Place<'_>) -> Result<(), ScriptFault>
+    ensures { Reads (λ _. tt) result (nothing_among (left_of place.entry).pieces place.entry.line) }
+{
+    if place.rest.is_empty() {
         return Ok(());
     }
     Err(ScriptFault {
-        line: behind.line,
+        line: place.line,
         kind: AFTER,
     })
 }
