@@ -1,0 +1,4 @@
+pub mod Seated
+pub mod Steps
+pub mod Owed
+pub mod Hands
