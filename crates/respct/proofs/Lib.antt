@@ -6,3 +6,6 @@ pub mod Reports
 pub mod Lives
 pub mod Saves
 pub mod Answering
+pub mod Loads
+pub mod Misfits
+pub mod Checks

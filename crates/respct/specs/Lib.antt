@@ -3,3 +3,6 @@ pub mod Words
 pub mod Run
 pub mod Answers
 pub mod Steps
+pub mod Loads
+pub mod Checks
+pub mod Misfits

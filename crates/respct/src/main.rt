@@ -2,7 +2,10 @@
 #![tactic(auto)]
 
 mod answer;
+mod checking;
+mod fitting;
 mod living;
+mod loading;
 mod reading;
 mod saving;
 mod start;
