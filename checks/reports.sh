@@ -35,6 +35,10 @@ shown 1 >wanted
 compare "$top/examples/first.respct" 0 "$@"
 shown 2 >wanted
 compare "$top/examples/cut.respct" 4 "$@"
+printf 'respct-report 1\nlife start\nbegan 1\nentry 0 0 put 1 10 = new\nentry 1 0 put 1 20 = old 10\nflushed 0\nend cut\n' >wanted
+compare "$top/examples/two_threads.respct" 4 "$@"
+printf 'respct-report 1\nlife start\nbegan 1\nentry 1 0 enq 9 = done\nsaved 2\nentry 0 0 take = is 9\nsaved 3\nflushed 11\nend finished\n' >wanted
+compare "$top/examples/take.respct" 0 "$@"
 cat "$top/crates/respct/stdout" >wanted
 compare "$top/crates/respct/stdin" 0 "$@"
 echo "reports: as README.md shows them, by $command $*"

@@ -4,7 +4,7 @@
 #
 #     checks/statuses.sh crates/respct/out/respct
 #
-# 11 is not tried, since it needs memory that is refused; 3, 5, 6 and 10 do not come yet. Each case holds for root too, who may open any
+# 11 is not tried, since it needs memory that is refused; 6 does not come yet. Each case holds for root too, who may open any
 # file: so the source that cannot be read is closed, or a folder, and the place for the image is in a folder that is not there.
 set -eu
 top=$(CDPATH='' cd -- "$(dirname -- "$0")/.." && pwd)
@@ -24,10 +24,10 @@ block() {
     ' "$top/$1"
 }
 
-# The line on standard error for a code, by the table of docs/formats.md, and nothing where it has none. A script that is refused today has
-# the line 0 and the kind 0.
+# The line on standard error for a code, by the table of docs/formats.md, and nothing where it has none. What stands there for a fault is this
+# one.
 line_for() {
-    sed -n "/^## 14\\./,/^## 15\\./s/^| $1 | \`\\([^\`]*\\)\`.*/\\1/p" "$top/docs/formats.md" | sed 's/line L: NAME/line 0: not built/'
+    sed -n "/^## 14\\./,/^## 15\\./s/^| $1 | \`\\([^\`]*\\)\`.*/\\1/p" "$top/docs/formats.md" | sed "s/line L: NAME/$2/; s/TEXT/$2/"
 }
 
 # Runs the program with these words, for 20 seconds at most. Standard output is kept, or goes to `sink`.
@@ -39,11 +39,11 @@ run() {
 }
 
 # The run before, which is the case of this name, ended with this code and its line, left an image of this size, or none, and wrote this
-# file.
+# file. Where a fault is told it is the last one given.
 ended() {
     {
         [ "$status" = "$2" ] || echo "it ends with $status in place of $2"
-        line_for "$2" | diff --label 'standard error, as it is to be' --label 'as it is' -u - said
+        line_for "$2" "${5-}" | diff --label 'standard error, as it is to be' --label 'as it is' -u - said
         diff --label 'standard output, as it is to be' --label 'as it is' -u "$4" written
         [ "$(find . -name '*.image' -printf %s)" = "$3" ] || echo "the image is not of this size in bytes: ${3:-none}"
     } >differs || true
@@ -53,12 +53,16 @@ ended() {
     fi
 }
 
-# The bytes of an image of one thread, one shard and 16 lines, by docs/formats.md.
+# The bytes of an image of one thread, one shard and 16 lines, by docs/formats.md, and of one of two threads.
 image=2200
+wide_image=2264
 block docs/formats.md 'respct 1' 1 >script
 block docs/formats.md 'respct-report 1' 1 >report
 block README.md 'respct-report 1' 2 >cut_report
 echo respct >no_script
+printf 'respct 1\nthreads 2\nshards 1\nlines 16\nevery 1\nturns rr 400\nkeep none\nthread 0\ntake\nthread 1\ntake\nend\n' >takes
+printf 'respct-report 1\nlife start\nbegan 1\nsaved 2\nflushed 3\nend stalled\n' >stalled_report
+sed 's/^turns .*/live 400/' takes >live
 head -c 8388608 /dev/zero >longest
 head -c 8388609 /dev/zero >too_long
 
@@ -66,16 +70,20 @@ run start --image left.image <script
 ended 'all is done' 0 "$image" report
 run start --image=left.image <"$top/examples/cut.respct"
 ended 'the turns are used up' 4 "$image" cut_report
+run start --image left.image <takes
+ended 'two threads that wait for an item' 3 "$wide_image" stalled_report
+run start --image left.image <live
+ended 'threads that run by themselves' 2 '' /dev/null 'line 0: not built'
 run <script
 ended 'no words' 1 '' /dev/null
 run start --image <script
 ended 'no name behind --image' 1 '' /dev/null
 run start --image left.image <no_script
-ended 'no script' 2 '' /dev/null
+ended 'no script' 2 '' /dev/null 'line 1: head'
 run start --image left.image </dev/null
-ended 'an empty source' 2 '' /dev/null
+ended 'an empty source' 2 '' /dev/null 'line 1: no end'
 run start --image left.image <longest
-ended 'no script, of as many bytes as a script may have' 2 '' /dev/null
+ended 'no script, of as many bytes as a script may have' 2 '' /dev/null 'line 1: no end'
 run start --image left.image <&-
 ended 'standard input is closed' 7 '' /dev/null
 run start --image left.image <folder
@@ -86,6 +94,19 @@ run start --image nowhere/left.image <script
 ended 'the folder of the image is not there' 9 '' /dev/null
 run start --image left.image <too_long
 ended 'one byte more than a script may have' 12 '' /dev/null
+
+printf 'respct-state 1\nepoch 2\nthread 0 1\nmap 5 7\nend\n' >state
+run start --image left.image <"$top/crates/respct/stdin"
+ended 'one put' 0 "$image" "$top/crates/respct/stdout"
+cp left.image kept
+run check --image kept
+ended 'a check of what one put left' 0 '' state
+sink=/dev/full run check --image kept
+ended 'a check with standard output full' 8 '' /dev/null
+run check --image no_script
+ended 'a check of a file that is no image' 5 '' /dev/null short
+run check --image nothing
+ended 'a check of a name with nothing under it' 10 '' /dev/null
 
 [ "$is_right" = yes ]
 echo "statuses: as docs/formats.md has them, by $program"

@@ -1,11 +1,13 @@
 pub mod Naming
-pub mod Scripts
+pub mod Readings
 pub mod Replies
 pub mod Entries
 pub mod Reports
+pub mod Marks
 pub mod Lives
 pub mod Saves
 pub mod Answering
 pub mod Loads
+pub mod Judging
 pub mod Misfits
 pub mod Checks

@@ -1,9 +1,9 @@
 -- Which words are those of a start, and what name they give its image.
-use Rattle.std.proofs.Common.{◌≡◌, ℕ, ◌<◌, ◌≤◌, Bool, true, List, [], ◌∷◌, length, get_or, map, Option, Some, None, Bor, ap, sym, subst, ◌∙◌, inl, inr, arith}
+use Rattle.std.proofs.Common.{◌≡◌, ℕ, ◌<◌, ◌≤◌, Bool, true, List, [], ◌∷◌, length, drop, get_or, map, Option, Some, None, Bor, ap, sym, subst, ◌∙◌, inl, inr, arith}
 use Rattle.std.specs.Prelude.{codes, MatchOption}
 use Rattle.std.specs.Str.{bytes_eq}
 use Rattle.script_text.proofs.LineLaws.{same_bytes}
-use Rattle.respct.specs.Words.{IsName, AreNaming, AreOfNoForm}
+use Rattle.respct.specs.Words.{IsName, AreNaming, AreOfForm, IsStart, IsCheck, AreOfNoForm}
 
 -- what these words give
 abbrev pub Names : Option (Bor (List ℕ)) → List (List ℕ) → Type 0
@@ -17,11 +17,18 @@ Tests given name = MatchOption given (IsName name → ⊥) (λ found. IsName fou
 pub passed : (text other word : List ℕ) (test : Bool) → test ≡ true → test ≡ bytes_eq text word → text ≡ other → other ≡ word
 passed text other word test t e is = sym is ∙ same_bytes text word (sym e ∙ t)
 
--- where the words behind the first give no name, they are none of a start
-pub no_start : {X : Type 0} (text : X → List ℕ) (words : List X) (first : X) (rest : List X) → words ≡ first ∷ rest → ((name : List ℕ) → AreNaming (map text rest) name → ⊥) → AreOfNoForm (map text words)
-no_start text words first rest are none name start =
-    let same : start.options ≡ map text rest = let whole : map text words ≡ text first ∷ map text rest = ap (map text) are in let is = start.first in cc in
-    none name (subst (λ (options : List (List ℕ)). AreNaming options name) same start.naming)
+-- where the words behind the first give no name, they are none of a form
+unnamed : {X : Type 0} (text : X → List ℕ) (words : List X) (first : X) (rest : List X) (form : List ℕ) → words ≡ first ∷ rest → ((name : List ℕ) → AreNaming (map text rest) name → ⊥)
+    → (name : List ℕ) → AreOfForm form (map text words) name → ⊥
+unnamed text words first rest form are none name is =
+    let same : is.options ≡ map text rest = let whole : map text words ≡ text first ∷ map text rest = ap (map text) are in let these = is.words_are in cc in
+    none name (subst (λ (options : List (List ℕ)). AreNaming options name) same is.naming)
+
+pub no_form : {X : Type 0} (text : X → List ℕ) (words : List X) (first : X) (rest : List X) → words ≡ first ∷ rest → ((name : List ℕ) → AreNaming (map text rest) name → ⊥) → AreOfNoForm (map text words)
+no_form text words first rest are none = record {
+  no_start = unnamed text words first rest (codes "start") are none;
+  no_check = unnamed text words first rest (codes "check") are none;
+}
 
 -- a list of two
 two_of : {X : Type 0} (text : X → List ℕ) (words : List X) (x y : X) → 2 ≤ length words → length words < 3 → x ≡ get_or words 0 x → y ≡ get_or words 1 y → map text words ≡ text x ∷ text y ∷ []
@@ -47,3 +54,46 @@ pub two_words : {X : Type 0} (text : X → List ℕ) (words : List X) (option wo
 two_words text words option word name given some few is then same named tests =
     subst (λ (ws : List (List ℕ)). Names given ws) (ap (λ (o : List ℕ). o ∷ text word ∷ []) (sym same) ∙ sym (two_of text words option word some few is then))
     (tested given (text word) (subst (λ (n : List ℕ). Tests given n) named tests))
+
+-- parts of lists of words: the first letter, the first word, the second, and all behind the first
+abbrev first_letter : List (List ℕ) → ℕ
+first_letter [] = 0
+first_letter ([] ∷ words) = 0
+first_letter ((c ∷ cs) ∷ words) = c
+
+abbrev first_word : List (List ℕ) → List ℕ
+first_word [] = []
+first_word (word ∷ words) = word
+
+abbrev second_word : List (List ℕ) → List ℕ
+second_word [] = []
+second_word (word ∷ words) = first_word words
+
+abbrev behind_first : List (List ℕ) → List (List ℕ)
+behind_first [] = []
+behind_first (word ∷ words) = words
+
+-- words are those of one form
+pub one_form : (words : List (List ℕ)) (name other : List ℕ) → IsStart words name → IsCheck words other → ⊥
+one_form words name other start check =
+    let meet : codes "start" ∷ start.options ≡ codes "check" ∷ check.options = sym start.words_are ∙ check.words_are in
+    let letters : 115 ≡ 99 = ap first_letter meet in
+    absurd (omega (arith, letters))
+
+-- options give one name
+one_naming : (options : List (List ℕ)) (name other : List ℕ) → AreNaming options name → AreNaming options other → name ≡ other
+one_naming options name other (inl d) (inl e) = d.1 ∙ sym e.1
+one_naming options name other (inl d) (inr (is, inl e)) = let n = ap length (sym d.0 ∙ e) in absurd (omega (arith, n))
+one_naming options name other (inl d) (inr (is, inr e)) = let n = ap length (sym d.0 ∙ e) in absurd (omega (arith, n))
+one_naming options name other (inr (was, inl d)) (inl e) = let n = ap length (sym d ∙ e.0) in absurd (omega (arith, n))
+one_naming options name other (inr (was, inl d)) (inr (is, inl e)) = ap second_word (sym d ∙ e)
+one_naming options name other (inr (was, inl d)) (inr (is, inr e)) = let n = ap length (sym d ∙ e) in absurd (omega (arith, n))
+one_naming options name other (inr (was, inr d)) (inl e) = let n = ap length (sym d ∙ e.0) in absurd (omega (arith, n))
+one_naming options name other (inr (was, inr d)) (inr (is, inl e)) = let n = ap length (sym d ∙ e) in absurd (omega (arith, n))
+one_naming options name other (inr (was, inr d)) (inr (is, inr e)) = ap (λ (words : List (List ℕ)). drop 8 (first_word words)) (sym d ∙ e)
+
+-- words of a check give one name
+pub one_name : (words : List (List ℕ)) (name other : List ℕ) → IsCheck words name → IsCheck words other → name ≡ other
+one_name words name other check again =
+    let same : check.options ≡ again.options = ap behind_first (sym check.words_are ∙ again.words_are) in
+    one_naming again.options name other (subst (λ (options : List (List ℕ)). AreNaming options name) same check.naming) again.naming

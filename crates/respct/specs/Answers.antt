@@ -3,15 +3,18 @@ use Rattle.std.specs.Prelude.{◌≡◌, ℕ, ◌<◌, ◌≤◌, ◌+◌, ◌�
 use Rattle.byte_ports.specs.Bytes.{Gave}
 use Rattle.byte_ports.specs.Images.{Named}
 use Rattle.line_memory.specs.Line.{BankState}
+use Rattle.seq_object.specs.declared.sizes.Sizes.{Sizes}
+use Rattle.room_model.specs.Image.{ImageRooms}
+use Rattle.power_cut.specs.declared.fault.ImageFault.{ImageFault}
 use Rattle.script_text.specs.declared.fault.ScriptFault.{ScriptFault}
-use Rattle.script_text.specs.Faults.{fault}
 use Rattle.script_text.specs.Program.{Program}
-use Rattle.script_text.specs.Built.{IsBuiltText, IsNotBuilt}
+use Rattle.script_text.specs.Built.{IsBuiltText, IsRefusedFor}
 use Rattle.respct.specs.declared.status.Status.{Status}
-use Rattle.respct.specs.declared.status.Status.TheVariants.{Finished, Script, Cut, OutOfMemory, TooLong}
+use Rattle.respct.specs.declared.status.Status.TheVariants.{Finished, Script, Stalled, Cut, Image, NoImage, OutOfMemory, TooLong}
 use Rattle.respct.specs.declared.answer.PlainAnswer.{PlainAnswer}
 use Rattle.respct.specs.declared.answer.PlainAnswer.TheVariants.{Ended}
-use Rattle.respct.specs.Run.{script_limit, HasEnoughTurns}
+use Rattle.respct.specs.Run.{script_limit}
+use Rattle.respct.specs.Loads.{IsLawfulSpelling, AreNoImage, IsFirstFault}
 
 -- nothing was written or saved, and no life began
 pub record IsUntouched (held held_now : Option (List ℕ)) (kept kept_now : Option Named) (memory : List BankState) : Type 0 where
@@ -19,13 +22,18 @@ pub record IsUntouched (held held_now : Option (List ℕ)) (kept kept_now : Opti
   pub kept_same : kept_now ≡ kept
   pub memory_is : memory ≡ []
 
--- the bytes that were read, all that the source had, are no text of a script of the form that is built
+-- no script was read, nothing was saved, and no life began
+pub record IsNoLife (left rest : Option (List ℕ)) (kept kept_now : Option Named) (memory : List BankState) : Type 0 where
+  pub left_same : rest ≡ left
+  pub kept_same : kept_now ≡ kept
+  pub memory_is : memory ≡ []
+
+-- the bytes that were read, all that the source had, are refused for this fault
 pub record IsNoScript (left rest : Option (List ℕ)) (f : ScriptFault) : Type 0 where
   pub bytes : List ℕ
   pub few : length bytes ≤ script_limit
   pub read : Gave left rest bytes
-  pub other : IsNotBuilt bytes
-  pub fault : f ≡ fault 0 0
+  pub refused : IsRefusedFor bytes f
 
 -- more bytes were taken than a script has; of a source that does not tell its bytes nothing is said
 abbrev pub TookTooMuch : Option (List ℕ) → Option (List ℕ) → Type 0
@@ -37,13 +45,26 @@ TookTooMuch (Some left) (Some rest) = script_limit + length rest < length left
 abbrev pub IsUnlessStarved : Status → Status → Type 0
 IsUnlessStarved wanted status = (status ≡ wanted) ⊎ (status ≡ OutOfMemory)
 
--- the status to which these bytes lead: a script of the form that is built is carried out, and to its end where it has turns enough
+-- the status is one of a life that was told: finished, stalled or cut; or memory ran out
+abbrev pub IsOfLifeUnlessStarved : Status → Type 0
+IsOfLifeUnlessStarved status = (status ≡ Finished) ⊎ ((status ≡ Stalled) ⊎ IsUnlessStarved Cut status)
+
+-- the status to which these bytes lead: a script whose turns are scheduled is carried out, and all other bytes are refused for their fault
 pub record IsDecided (bytes : List ℕ) (status : Status) : Type 0 where
-  pub carried_out : length bytes ≤ script_limit → (p : Program) → IsBuiltText bytes p → (status ≡ Cut) ⊎ IsUnlessStarved Finished status
-  pub finished : length bytes ≤ script_limit → (p : Program) → IsBuiltText bytes p → HasEnoughTurns p.turns p.threads
-      → IsUnlessStarved Finished status
-  pub refused : length bytes ≤ script_limit → IsNotBuilt bytes → IsUnlessStarved (Script (fault 0 0)) status
+  pub carried_out : length bytes ≤ script_limit → (p : Program) → IsBuiltText bytes p → IsOfLifeUnlessStarved status
+  pub refused : length bytes ≤ script_limit → (f : ScriptFault) → IsRefusedFor bytes f → IsUnlessStarved (Script f) status
   pub too_long : script_limit < length bytes → IsUnlessStarved TooLong status
+
+-- the status to which the bytes under the name of an image lead a check: the text of the state of a lawful image is written, and other bytes
+-- are refused by their first fault
+pub record IsCheckedTo (bytes : List ℕ) (status : Status) : Type 0 where
+  pub lawful : (z : Sizes) (rooms : ImageRooms) → IsLawfulSpelling bytes z rooms → IsUnlessStarved Finished status
+  pub other : AreNoImage bytes → (f : ImageFault) → IsFirstFault bytes f → IsUnlessStarved (Image f) status
+
+-- and to which a name leads, by what is kept under it
+abbrev pub LeadsCheckTo : Option (List ℕ) → Status → Type 0
+LeadsCheckTo None status = IsUnlessStarved NoImage status
+LeadsCheckTo (Some bytes) status = IsCheckedTo bytes status
 
 -- the status in an answer
 abbrev pub status_in : PlainAnswer → Status

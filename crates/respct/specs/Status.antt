@@ -4,12 +4,16 @@ use Rattle.std.specs.Fmt.{decimal}
 use Rattle.byte_ports.specs.declared.refusal.StoreRefusal.TheVariants as stores
 use Rattle.life_model.specs.declared.life.Outcome.{Outcome}
 use Rattle.life_model.specs.declared.life.Outcome.TheVariants as ends
+use Rattle.power_cut.specs.FaultText.{fault_text}
 use Rattle.script_text.specs.Faults.{kind_text}
+use Rattle.respct.specs.declared.checking.NotChecked.{NotChecked}
+use Rattle.respct.specs.declared.checking.NotChecked.TheVariants as checks
+use Rattle.respct.specs.declared.loading.NotLoaded.TheVariants as images
 use Rattle.respct.specs.declared.reading.NoScript.TheVariants as scripts
 use Rattle.respct.specs.declared.start.NoReport.{NoReport}
 use Rattle.respct.specs.declared.start.NoReport.TheVariants.{Unread, Untold, Unsaved, Unwritten}
 use Rattle.respct.specs.declared.status.Status.{Status}
-use Rattle.respct.specs.declared.status.Status.TheVariants.{Finished, Usage, Script, Stalled, Cut, ReadFault, WriteFault, StoreFault}
+use Rattle.respct.specs.declared.status.Status.TheVariants.{Finished, Usage, Script, Stalled, Cut, Image, ReadFault, WriteFault, StoreFault}
 use Rattle.respct.specs.declared.status.Status.TheVariants.{NoImage, OutOfMemory, TooLong}
 
 -- the code with which the program exits
@@ -19,6 +23,7 @@ code_of Usage = 1
 code_of (Script fault) = 2
 code_of Stalled = 3
 code_of Cut = 4
+code_of (Image fault) = 5
 code_of ReadFault = 7
 code_of WriteFault = 8
 code_of StoreFault = 9
@@ -33,6 +38,7 @@ status_text Usage = codes "usage: respct start, resume or check with --image NAM
 status_text (Script fault) = codes "script: line " ++ decimal fault.line ++ codes ": " ++ kind_text fault.kind
 status_text Stalled = codes "stalled"
 status_text Cut = codes "cut"
+status_text (Image fault) = codes "image: " ++ fault_text fault
 status_text ReadFault = codes "cannot read the script"
 status_text WriteFault = codes "cannot write the report"
 status_text StoreFault = codes "cannot use the image store"
@@ -47,6 +53,7 @@ IsRefusal Usage = Unit {0}
 IsRefusal (Script fault) = Unit {0}
 IsRefusal Stalled = ⊥
 IsRefusal Cut = ⊥
+IsRefusal (Image fault) = Unit {0}
 IsRefusal ReadFault = Unit {0}
 IsRefusal WriteFault = Unit {0}
 IsRefusal StoreFault = Unit {0}
@@ -77,3 +84,13 @@ status_of_refusal (Unwritten stores.OutOfMemory) = OutOfMemory
 abbrev pub status_of_start : Result Outcome NoReport → Status
 status_of_start (Ok outcome) = status_of_end outcome
 status_of_start (Err refusal) = status_of_refusal refusal
+
+-- the status of a check
+abbrev pub status_of_check : Result (Unit {0}) NotChecked → Status
+status_of_check (Ok done) = Finished
+status_of_check (Err (checks.Unloaded (images.Fault fault))) = Image fault
+status_of_check (Err (checks.Unloaded images.Missing)) = NoImage
+status_of_check (Err (checks.Unloaded images.Failed)) = StoreFault
+status_of_check (Err (checks.Unloaded images.OutOfMemory)) = OutOfMemory
+status_of_check (Err (checks.Unwritten stores.Failed)) = WriteFault
+status_of_check (Err (checks.Unwritten stores.OutOfMemory)) = OutOfMemory

@@ -1,25 +1,23 @@
 -- What the steps of a start tell: reading the script, leading its life, saving the image, and writing the report.
-use Rattle.std.specs.Prelude.{◌≡◌, ◌≢◌, ◌⊎◌, ℕ, ◌+◌, ◌*◌, ◌≤◌, ◌<◌, Option, List, [], ◌∷◌, length, Result, Ok, Err}
+use Rattle.std.specs.Prelude.{◌≡◌, ◌⊎◌, ℕ, ◌≤◌, ◌<◌, Option, List, [], length, Result, Ok, Err}
 use Rattle.byte_ports.specs.Bytes.{TookSome, Appended, AppendedSome}
 use Rattle.byte_ports.specs.Causes.{Rose}
 use Rattle.byte_ports.specs.Images.{Named, OthersSame}
 use Rattle.byte_ports.specs.declared.refusal.StoreRefusal.{StoreRefusal}
 use Rattle.byte_ports.specs.declared.refusal.StoreRefusal.TheVariants as stores
-use Rattle.seq_object.specs.declared.settings.Settings.{Settings}
-use Rattle.seq_object.specs.declared.command.Command.{Command}
 use Rattle.line_memory.specs.Line.{BankState}
 use Rattle.life_model.specs.declared.life.Outcome.{Outcome}
-use Rattle.life_model.specs.declared.life.Outcome.TheVariants as ends
-use Rattle.respct.specs.Run.{script_limit, Led, IsLed, HasSaved}
+use Rattle.script_run.specs.Starts.{IsReplayOf}
+use Rattle.respct.specs.Run.{script_limit, schedule_in, Led, IsLed, HasSaved}
 use Rattle.respct.specs.Answers.{IsNoScript, TookTooMuch, IsUntouched}
 use Rattle.life_model.specs.Told.{ReportState, TellsOf}
 use Rattle.life_model.specs.Life.{start_of}
 use Rattle.script_text.specs.declared.script.Script.{Script}
-use Rattle.script_text.specs.Faults.{fault}
+use Rattle.script_text.specs.declared.fault.ScriptFault.{ScriptFault}
 use Rattle.script_text.specs.Program.{Program}
 use Rattle.script_text.specs.ReportText.{report_bytes}
 use Rattle.script_text.specs.ReportLimits.{HasReportText}
-use Rattle.script_text.specs.Built.{IsBuiltText, IsNotBuilt}
+use Rattle.script_text.specs.Built.{IsBuiltText, IsRefusedFor}
 use Rattle.respct.specs.declared.reading.NoScript.{NoScript}
 use Rattle.respct.specs.declared.start.NoReport.{NoReport}
 use Rattle.respct.specs.declared.start.NoReport.TheVariants.{Unread, Untold, Unsaved, Unwritten}
@@ -45,19 +43,15 @@ IsRefusedUnlessStarved wanted (Err refusal) = (refusal ≡ wanted) ⊎ (refusal 
 -- to what these bytes lead where the source does not fail
 pub record IsReadDecided (bytes : List ℕ) (result : Result Script NoScript) : Type 0 where
   pub script : length bytes ≤ script_limit → (p : Program) → IsBuiltText bytes p → IsScriptUnlessStarved result
-  pub refused : length bytes ≤ script_limit → IsNotBuilt bytes → IsRefusedUnlessStarved (scripts.Fault (fault 0 0)) result
+  pub refused : length bytes ≤ script_limit → (f : ScriptFault) → IsRefusedFor bytes f → IsRefusedUnlessStarved (scripts.Fault f) result
   pub too_long : script_limit < length bytes → IsRefusedUnlessStarved scripts.TooLong result
 
--- the outcome of a life of so many commands that had so many turns: it is not stalled, and with turns enough it is not cut
-pub record IsOutcomeIn (commands turns : ℕ) (outcome : Outcome) : Type 0 where
-  pub not_stalled : outcome ≢ ends.Stalled
-  pub enough : 128 * (commands + 1) ≤ turns → outcome ≢ ends.Cut
-
--- a report is of a start of this thread with so many turns, and tells of its life and of the memory that it left
-pub record IsReportOf (settings : Settings) (commands : List Command) (turns : ℕ) (r : ReportState) (memory : List BankState) : Type 0 where
-  pub told : TellsOf (start_of settings (commands ∷ [])) [] 0 r memory
+-- a report and a memory are those of a start of this program: the report tells of the life, both are those of its run, and the report is
+-- within the limits of its grammar
+pub record IsReportOf (p : Program) (r : ReportState) (memory : List BankState) : Type 0 where
+  pub told : TellsOf (start_of p.settings p.threads) [] 0 r memory
+  pub run : IsReplayOf p.settings p.threads (schedule_in p) r memory
   pub within : HasReportText r
-  pub outcome : IsOutcomeIn (length commands) turns r.outcome
 
 -- what the source, the sink and the image store tell: the bytes that are left, those that were written, the images by name, and how many
 -- calls of each have failed
@@ -82,7 +76,6 @@ pub record HasReported (name : List ℕ) (old new : Ports) (memory : List BankSt
   pub saved : HasSaved old.kept new.kept memory led
   pub appended : Appended old.held new.held (report_bytes led.report)
   pub ended : led.report.outcome ≡ outcome
-  pub not_stalled : outcome ≢ ends.Stalled
 
 -- a store or a sink refused: by a fault, or for want of memory, which is free
 abbrev pub HasCause : StoreRefusal → ℕ → ℕ → Type 0

@@ -17,16 +17,25 @@ abbrev pub AreNaming : List (List ℕ) → List ℕ → Type 0
 AreNaming options name = ((options ≡ []) × (name ≡ default_name))
     ⊎ (IsName name × ((options ≡ codes "--image" ∷ name ∷ []) ⊎ (options ≡ (codes "--image=" ++ name) ∷ [])))
 
--- the words of a start, and the name of its image
-pub record IsStart (words : List (List ℕ)) (name : List ℕ) : Type 0 where
+-- the words of the form with this first word, and the name of its image
+pub record AreOfForm (first : List ℕ) (words : List (List ℕ)) (name : List ℕ) : Type 0 where
   pub options : List (List ℕ)
-  pub first : words ≡ codes "start" ∷ options
+  pub words_are : words ≡ first ∷ options
   pub naming : AreNaming options name
+
+-- the words of a start and of a check
+abbrev pub IsStart : List (List ℕ) → List ℕ → Type 0
+IsStart words name = AreOfForm (codes "start") words name
+
+abbrev pub IsCheck : List (List ℕ) → List ℕ → Type 0
+IsCheck words name = AreOfForm (codes "check") words name
 
 -- these are the words of a form
 abbrev pub AreWordsOf : List (List ℕ) → Form → Type 0
 AreWordsOf words (forms.Start image) = IsStart words image.now
+AreWordsOf words (forms.Check image) = IsCheck words image.now
 
 -- the words are those of no form
-abbrev pub AreOfNoForm : List (List ℕ) → Type 0
-AreOfNoForm words = (name : List ℕ) → IsStart words name → ⊥
+pub record AreOfNoForm (words : List (List ℕ)) : Type 0 where
+  pub no_start : (name : List ℕ) → IsStart words name → ⊥
+  pub no_check : (name : List ℕ) → IsCheck words name → ⊥

@@ -1,4 +1,5 @@
-//! respct: carries out a script of map and queue commands on simulated persistent memory, and reports what was done.
+//! respct: carries out a script of map and queue commands on simulated persistent memory, and reports what was done; and judges the images
+//! that a power cut left.
 #![tactic(auto)]
 
 mod answer;

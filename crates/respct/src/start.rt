@@ -6,14 +6,13 @@ ghost use Rattle.respct.specs.Status.{status_of_start};
 ghost use Rattle.respct.specs.Answers.{IsDecided};
 ghost use Rattle.respct.specs.Steps.{ports, HasReported, IsUnreported};
 
-use crate::living::{live, turns_in};
+use crate::living::live;
 use crate::reading::{NoScript, read};
 use crate::saving::save;
 use crate::writing::write;
 use byte_ports::{Images, Sink, Source, StoreRefusal};
 use life_model::Outcome;
 use line_memory::Memory;
-use script_text::Script;
 use std::alloc::Global;
 
 /// Why a start ends without its report.
@@ -52,21 +51,15 @@ pub fn start<S: Source, G: Images, W: Sink>(
         → (Rose (W.count sink.old) (W.count sink.new) → ⊥)
         → (bytes : List ℕ) → S.left source.old ≡ Some bytes → IsDecided bytes (status_of_start result) }
 {
-    let Script {
-        settings,
-        mode,
-        keep,
-        threads,
-    } = match read(alloc, source) {
+    let script = match read(alloc, source) {
         Ok(script) => script,
         Err(refusal) => return Err(NoReport::Unread(refusal)),
     };
-    let mut threads = threads;
-    let report = match live(alloc, settings, threads.remove(0), turns_in(&mode), memory) {
+    let report = match live(alloc, &script, memory) {
         Ok(report) => report,
         Err(_) => return Err(NoReport::Untold),
     };
-    if let Err(refusal) = save(alloc, images, name, memory, &settings, &keep) {
+    if let Err(refusal) = save(alloc, images, name, memory, &script.settings, &script.keep) {
         return Err(NoReport::Unsaved(refusal));
     }
     match write(alloc, &report, sink) {

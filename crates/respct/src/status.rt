@@ -1,12 +1,15 @@
 //! How a call of the program ends, and the code and the text that tell it.
 
 ghost use Rattle.std.specs.Prelude.{◌≡◌, ◌↔◌, IsTrue};
-ghost use Rattle.respct.specs.Status.{code_of, status_of_end, status_of_refusal, status_of_start, IsRefusal};
+ghost use Rattle.respct.specs.Status.{code_of, status_of_end, status_of_refusal, status_of_start, status_of_check, IsRefusal};
 
+use crate::checking::NotChecked;
+use crate::loading::NotLoaded;
 use crate::reading::NoScript;
 use crate::start::NoReport;
 use byte_ports::StoreRefusal;
 use life_model::Outcome;
+use power_cut::ImageFault;
 use script_text::{ScriptFault, kind_name};
 use std::fmt;
 
@@ -23,9 +26,11 @@ pub enum Status {
     Stalled,
     /// The power was cut before the scripts were used.
     Cut,
+    /// What the image store keeps under the name is no lawful image: its first fault.
+    Image(ImageFault),
     /// The source could not be read.
     ReadFault,
-    /// The report could not be written; a prefix of it may have been.
+    /// The text for standard output could not be written; a prefix of it may have been.
     WriteFault,
     /// The image store could not be used.
     StoreFault,
@@ -45,6 +50,21 @@ impl Status {
         match ended {
             Ok(outcome) => Status::of_end(outcome),
             Err(refusal) => Status::of_refusal(refusal),
+        }
+    }
+
+    /// The status of a check.
+    pub fn of_check(ended: Result<(), NotChecked>) -> Status
+        ensures { result ≡ status_of_check ended }
+    {
+        match ended {
+            Ok(()) => Status::Finished,
+            Err(NotChecked::Unloaded(NotLoaded::Fault(fault))) => Status::Image(fault),
+            Err(NotChecked::Unloaded(NotLoaded::Missing)) => Status::NoImage,
+            Err(NotChecked::Unloaded(NotLoaded::Failed)) => Status::StoreFault,
+            Err(NotChecked::Unwritten(StoreRefusal::Failed)) => Status::WriteFault,
+            Err(NotChecked::Unloaded(NotLoaded::OutOfMemory))
+            | Err(NotChecked::Unwritten(StoreRefusal::OutOfMemory)) => Status::OutOfMemory,
         }
     }
 
@@ -77,7 +97,7 @@ impl Status {
         }
     }
 
-    /// The code with which the program exits, from 0 to 12. 5 and 6 are those of an image that is refused or does not fit.
+    /// The code with which the program exits, from 0 to 12. 6 is that of an image that does not fit.
     pub fn code(&self) -> u8
         ensures { result ≡ code_of self.now }
     {
@@ -87,6 +107,7 @@ impl Status {
             Status::Script(_) => 2,
             Status::Stalled => 3,
             Status::Cut => 4,
+            Status::Image(_) => 5,
             Status::ReadFault => 7,
             Status::WriteFault => 8,
             Status::StoreFault => 9,
@@ -125,6 +146,7 @@ impl fmt::Display for Status {
             ),
             Status::Stalled => f.write_str("stalled"),
             Status::Cut => f.write_str("cut"),
+            Status::Image(fault) => write!(f, "image: {fault}"),
             Status::ReadFault => f.write_str("cannot read the script"),
             Status::WriteFault => f.write_str("cannot write the report"),
             Status::StoreFault => f.write_str("cannot use the image store"),

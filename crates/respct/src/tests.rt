@@ -4,15 +4,32 @@ use crate::status::Status;
 use crate::top::respct;
 use byte_ports::{FileImages, Images, MemoryImages, MemorySink, MemorySource};
 use line_memory::Memory;
+use power_cut::ImageFault;
 use script_text::ScriptFault;
 use std::alloc::{AllocError, Global};
 use std::test::Fail;
 use std::{env, fs};
 use store_order::may_be_left;
 
-/// A whole script of two threads.
-const TWO_THREADS: &str =
-    "respct 1\nthreads 2\nshards 1\nlines 16\nevery 1\nturns rr 384\nkeep none\nthread 0\nput 5 7\nget 5\nend\nthread 1\nend\n";
+/// A script whose threads run by themselves.
+const LIVE: &str =
+    "respct 1\nthreads 2\nshards 1\nlines 16\nevery 1\nlive 384\nkeep none\nthread 0\nput 5 7\nget 5\nthread 1\nend\n";
+
+/// Two threads that put the same key: the second waits twice for the room that the first holds.
+const SAME_KEY: &str =
+    "respct 1\nthreads 2\nshards 1\nlines 16\nevery 1\nturns list 0 0 1 1 1 0 0 0 0 0 0 0 0 0 0 0 0 0 0 0 0 0 0 0 0 1 1 1 1\nkeep none\nthread 0\nput 1 10\nthread 1\nput 1 20\nend\n";
+
+/// Two threads with three commands each, two in an epoch.
+const SIX_GETS: &str =
+    "respct 1\nthreads 2\nshards 1\nlines 16\nevery 2\nturns rr 400\nkeep none\nthread 0\nget 1\nget 1\nget 1\nthread 1\nget 1\nget 1\nget 1\nend\n";
+
+/// A thread that takes an item which another brings.
+const TAKE: &str =
+    "respct 1\nthreads 2\nshards 1\nlines 16\nevery 1\nturns rr 400\nkeep none\nthread 0\ntake\nthread 1\nenq 9\nend\n";
+
+/// Two threads that wait for an item.
+const TWO_TAKES: &str =
+    "respct 1\nthreads 2\nshards 1\nlines 16\nevery 1\nturns rr 400\nkeep none\nthread 0\ntake\nthread 1\ntake\nend\n";
 
 /// The script of one put.
 const ONE_PUT: Script = Script {
@@ -22,7 +39,7 @@ const ONE_PUT: Script = Script {
     commands: "put 5 7\n",
 };
 
-/// What differs between the scripts of these tests. Each has one thread, one shard and rooms of 16 lines.
+/// What differs between the scripts of one thread. Each has one thread, one shard and rooms of 16 lines.
 #[derive(Clone, Copy)]
 struct Script {
     every: u32,
@@ -265,6 +282,40 @@ fn lives_of_several_commands(rt: HostRuntime) -> Result<(), Fail> {
     Ok(())
 }
 
+/// Scripts of two threads, in their stated interleavings.
+#[test]
+fn lives_of_two_threads(rt: HostRuntime) -> Result<(), Fail> {
+    for (text, status, lines) in [
+        (
+            SAME_KEY,
+            Status::Cut,
+            "entry 0 0 put 1 10 = new\nentry 1 0 put 1 20 = old 10\nflushed 0\nend cut\n",
+        ),
+        (
+            SIX_GETS,
+            Status::Finished,
+            "entry 0 0 get 1 = none\nentry 1 0 get 1 = none\nentry 0 1 get 1 = none\nentry 1 1 get 1 = none\nsaved 2\nentry 1 2 get 1 = none\nentry 0 2 get 1 = none\nsaved 3\nflushed 6\nend finished\n",
+        ),
+        (
+            TAKE,
+            Status::Finished,
+            "entry 1 0 enq 9 = done\nsaved 2\nentry 0 0 take = is 9\nsaved 3\nflushed 11\nend finished\n",
+        ),
+        (
+            TWO_TAKES,
+            Status::Stalled,
+            "saved 2\nflushed 3\nend stalled\n",
+        ),
+    ] {
+        let text = Vec::from_slice(rt.alloc(), text.as_bytes())?;
+        let left = answer(rt, "start", text, NO_FAILS)?;
+        assert_eq!(rt; left.status, status);
+        assert!(rt; left.report == report(rt.alloc(), lines)?);
+        assert_eq!(rt; left.image.len(), 2264);
+    }
+    Ok(())
+}
+
 /// Fourteen items fill the queue of sixteen lines; it is emptied, and takes items again.
 #[test]
 fn a_queue_driven_full_and_empty(rt: HostRuntime) -> Result<(), Fail> {
@@ -432,6 +483,52 @@ fn images_by_their_names(rt: HostRuntime) -> Result<(), Fail> {
     Ok(())
 }
 
+/// The answer to these words over this text and these images, and what was written.
+fn told(
+    rt: HostRuntime,
+    words: &str,
+    text: Vec<u8>,
+    images: &mut MemoryImages,
+) -> Result<(Status, Vec<u8>), AllocError> {
+    let words = words_in(rt.alloc(), words)?;
+    let mut source = MemorySource::new(text, Vec::new(rt.alloc()));
+    let mut sink = MemorySink::new(rt.alloc(), Vec::new(rt.alloc()));
+    let mut memory = Memory::empty(rt.alloc());
+    let status = respct(&rt, &words, &mut source, images, &mut sink, &mut memory);
+    Ok((status, Vec::from_slice(rt.alloc(), sink.bytes())?))
+}
+
+/// What a check tells of the image of one put, which is saved, or cut away.
+#[test]
+fn checks_of_what_a_start_left(rt: HostRuntime) -> Result<(), Fail> {
+    for (turns, lines) in [
+        (49, "epoch 2\nthread 0 1\nmap 5 7\nend\n"),
+        (44, "epoch 1\nthread 0 0\nend\n"),
+    ] {
+        let script = Script { turns, ..ONE_PUT };
+        let mut images = MemoryImages::new(rt.alloc(), Vec::new(rt.alloc()));
+        let _led = told(rt, "start", script.text(rt.alloc())?, &mut images)?;
+        let (status, state) = told(rt, "check", Vec::new(rt.alloc()), &mut images)?;
+        assert_eq!(rt; status, Status::Finished);
+        let wanted = format!(in rt.alloc(); "respct-state 1\n{lines}")?;
+        assert!(rt; state == wanted.into_bytes(), "after {turns} turns");
+    }
+    Ok(())
+}
+
+#[test]
+fn checks_that_are_refused(rt: HostRuntime) -> Result<(), Fail> {
+    let mut images = MemoryImages::new(rt.alloc(), Vec::new(rt.alloc()));
+    let (status, state) = told(rt, "check", Vec::new(rt.alloc()), &mut images)?;
+    assert_eq!(rt; status, Status::NoImage);
+    assert_eq!(rt; state.len(), 0);
+    assert!(rt; images.save(DEFAULT_NAME, b"RESPCTIM").is_ok());
+    let (status, state) = told(rt, "check", Vec::new(rt.alloc()), &mut images)?;
+    assert_eq!(rt; status, Status::Image(ImageFault::Short));
+    assert_eq!(rt; state.len(), 0);
+    Ok(())
+}
+
 #[test]
 fn other_words_are_refused(rt: HostRuntime) -> Result<(), Fail> {
     for words in [
@@ -445,6 +542,8 @@ fn other_words_are_refused(rt: HostRuntime) -> Result<(), Fail> {
         "start --image=-x",
         "start --image a b",
         "start --image a --image b",
+        "check extra",
+        "resume",
         "",
     ] {
         let left = answer(rt, words, Vec::new(rt.alloc()), NO_FAILS)?;
@@ -453,15 +552,20 @@ fn other_words_are_refused(rt: HostRuntime) -> Result<(), Fail> {
     Ok(())
 }
 
+/// A script whose threads run by themselves is not carried out yet; every other text has its first fault.
 #[test]
-fn another_form_is_not_built(rt: HostRuntime) -> Result<(), Fail> {
-    let text = Vec::from_slice(rt.alloc(), TWO_THREADS.as_bytes())?;
-    let left = answer(rt, "start", text, NO_FAILS)?;
-    assert_eq!(rt;
-        left.status,
-        Status::Script(ScriptFault { line: 0, kind: 0 })
-    );
-    assert_eq!(rt; left.report.len() + left.image.len(), 0);
+fn texts_that_are_refused(rt: HostRuntime) -> Result<(), Fail> {
+    for (text, line, kind) in [
+        (LIVE, 0, 0),
+        ("", 1, 10),
+        ("respct 2\n", 1, 1),
+        ("respct 1\nthreads 17\n", 2, 4),
+    ] {
+        let text = Vec::from_slice(rt.alloc(), text.as_bytes())?;
+        let left = answer(rt, "start", text, NO_FAILS)?;
+        assert_eq!(rt; left.status, Status::Script(ScriptFault { line, kind }));
+        assert_eq!(rt; left.report.len() + left.image.len(), 0);
+    }
     Ok(())
 }
 
@@ -505,7 +609,7 @@ fn a_first_write_that_fails(rt: HostRuntime) -> Result<(), Fail> {
 #[test]
 fn a_source_past_the_limit_is_too_long(rt: HostRuntime) -> Result<(), Fail> {
     for (bytes, wanted) in [
-        (8_388_608, Status::Script(ScriptFault { line: 0, kind: 0 })),
+        (8_388_608, Status::Script(ScriptFault { line: 1, kind: 10 })),
         (8_388_609, Status::TooLong),
     ] {
         let text = vec![in rt.alloc(); b' '; bytes]?;
@@ -568,6 +672,11 @@ fn each_status_has_its_code_and_text(rt: HostRuntime) -> Result<(), Fail> {
         (Status::Script(fault), 2, "script: line 3: setting"),
         (Status::Stalled, 3, "stalled"),
         (Status::Cut, 4, "cut"),
+        (
+            Status::Image(ImageFault::TagAhead { room: 3, line: 0 }),
+            5,
+            "image: tag ahead, room 3, line 0",
+        ),
         (Status::ReadFault, 7, "cannot read the script"),
         (Status::WriteFault, 8, "cannot write the report"),
         (Status::StoreFault, 9, "cannot use the image store"),

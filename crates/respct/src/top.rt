@@ -1,33 +1,39 @@
-//! The top call: the words, the script, the life, and the report.
+//! The top call: the words; of a start the script, the life and the report, and of a check the image and the state that it recovers to.
 
-ghost use Rattle.std.specs.Prelude.{◌≡◌, ◌≢◌, ◌⊎◌, ◌↔◌, ℕ, List, [], map, Some};
+ghost use Rattle.std.specs.Prelude.{◌≡◌, ◌⊎◌, ◌↔◌, ℕ, List, [], map, None, Some};
+ghost use Rattle.std.specs.FinMap.{get};
 ghost use Rattle.std.specs.String.{string_bytes};
 ghost use Rattle.byte_ports.specs.Bytes.{TookSome, Appended, AppendedSome};
 ghost use Rattle.byte_ports.specs.Causes.{Rose};
-ghost use Rattle.byte_ports.specs.Images.{OthersSame};
+ghost use Rattle.byte_ports.specs.Images.{Named, Finds, OthersSame};
 ghost use Rattle.life_model.specs.declared.life.Outcome.TheVariants as ends;
 ghost use Rattle.script_text.specs.ReportText.{report_bytes};
-ghost use Rattle.respct.specs.declared.status.Status.TheVariants.{Finished, Usage, Script, Stalled, Cut, ReadFault, WriteFault};
+ghost use Rattle.respct.specs.declared.status.Status.TheVariants.{Finished, Usage, Script, Stalled, Cut, Image, ReadFault, WriteFault};
 ghost use Rattle.respct.specs.declared.status.Status.TheVariants.{StoreFault, NoImage, OutOfMemory, TooLong};
 ghost use Rattle.respct.specs.declared.answer.PlainAnswer.TheVariants.{Ended};
-ghost use Rattle.respct.specs.Words.{IsStart, AreOfNoForm};
+ghost use Rattle.respct.specs.Words.{IsStart, IsCheck, AreOfNoForm};
 ghost use Rattle.respct.specs.Run.{Led, IsLed, HasSaved};
-ghost use Rattle.respct.specs.Answers.{IsUntouched, IsNoScript, TookTooMuch, IsDecided, status_in};
+ghost use Rattle.respct.specs.Loads.{IsFaulty};
+ghost use Rattle.respct.specs.Checks.{HasChecked, HasCheckedSome};
+ghost use Rattle.respct.specs.Answers.{IsUntouched, IsNoLife, IsNoScript, TookTooMuch, IsDecided, LeadsCheckTo, status_in};
 
 use crate::answer::PlainAnswer;
+use crate::checking::check;
 use crate::start::start;
 use crate::status::Status;
 use crate::words::{Form, form_of};
 use byte_ports::{Images, Sink, Source};
 use line_memory::Memory;
+use power_cut::ImageFault;
 use script_text::ScriptFault;
 use std::alloc::Global;
 
 /// The program: does what the words say, and answers how it ended.
 ///
-/// `words` are those after the program's name: `start`, with `--image NAME` or `--image=NAME` where the image is not to be `respct.image`.
-/// The script is read from `script`, the image saved in `images`, and then the report written to `report`. `memory` is handed in empty, and
-/// is what the life left, or empty where no life began or memory ran out before the life was told.
+/// `words` are those after the program's name: `start` or `check`, with `--image NAME` or `--image=NAME` where the image is not to be
+/// `respct.image`. Of a start the script is read from `script`, the image saved in `images`, and then the report written to `report`. A check
+/// loads the image from `images`, and writes the text of the state that it recovers to to `report`. `memory` is handed in empty, and is what
+/// the life left, or empty where no life began or memory ran out before the life was told.
 pub fn respct<R: AllocGlobal, S: Source, G: Images, W: Sink>(
     rt: &R,
     words: &[String],
@@ -38,11 +44,20 @@ pub fn respct<R: AllocGlobal, S: Source, G: Images, W: Sink>(
 ) -> Status
     requires { memory.old ≡ [] }
 
-    // 0: a life was led to its end, its image is saved, and its whole report was appended.
-    ensures finished { result ≡ Finished → (led : Led) × IsStart (map string_bytes words.now) led.name
+    // 0: a life was led to its end, its image is saved, and its whole report was appended; or of a check, the image under the name is lawful,
+    // the text of the state that it recovers to was appended, and nothing else was done.
+    ensures finished { result ≡ Finished → ((led : Led) × IsStart (map string_bytes words.now) led.name
         × IsLed (S.left script.old) (S.left script.new) memory.new led
         × HasSaved (G.kept images.old) (G.kept images.new) memory.new led
-        × Appended (W.held report.old) (W.held report.new) (report_bytes led.report) × (led.report.outcome ≡ ends.Finished) }
+        × Appended (W.held report.old) (W.held report.new) (report_bytes led.report) × (led.report.outcome ≡ ends.Finished))
+        ⊎ ((name : List ℕ) × IsCheck (map string_bytes words.now) name × HasChecked (G.kept images.old) name (W.held report.old) (W.held report.new) × IsNoLife (S.left script.old) (S.left script.new) (G.kept images.old) (G.kept images.new) memory.new) }
+
+    // 3: a life was led until it stalled, with each thread at its script's end or before a take of the empty queue, and one before a take; its
+    // image is saved, and its whole report was appended.
+    ensures stalled { result ≡ Stalled → (led : Led) × IsStart (map string_bytes words.now) led.name
+        × IsLed (S.left script.old) (S.left script.new) memory.new led
+        × HasSaved (G.kept images.old) (G.kept images.new) memory.new led
+        × Appended (W.held report.old) (W.held report.new) (report_bytes led.report) × (led.report.outcome ≡ ends.Stalled) }
 
     // 4: the same of a life whose power was cut before its end.
     ensures cut { result ≡ Cut → (led : Led) × IsStart (map string_bytes words.now) led.name
@@ -55,7 +70,7 @@ pub fn respct<R: AllocGlobal, S: Source, G: Images, W: Sink>(
     ensures unasked { result ≡ Usage → (S.left script.new ≡ S.left script.old)
         × IsUntouched (W.held report.old) (W.held report.new) (G.kept images.old) (G.kept images.new) memory.new }
 
-    // 2: the source had bytes that are no text of a script, and all of them were read. Nothing else was done.
+    // 2: the source had bytes that are refused for this fault, and all of them were read. Nothing else was done.
     ensures script { (f : ScriptFault) → result ≡ Script f → IsNoScript (S.left script.old) (S.left script.new) f
         × IsUntouched (W.held report.old) (W.held report.new) (G.kept images.old) (G.kept images.new) memory.new }
 
@@ -67,38 +82,51 @@ pub fn respct<R: AllocGlobal, S: Source, G: Images, W: Sink>(
     ensures too_long { result ≡ TooLong → TookTooMuch (S.left script.old) (S.left script.new) × TookSome (S.left script.old) (S.left script.new)
         × IsUntouched (W.held report.old) (W.held report.new) (G.kept images.old) (G.kept images.new) memory.new }
 
-    // 9: the image store failed after a life was led. What is under the image's name is open, and nothing was written.
-    ensures unsaved { result ≡ StoreFault → Rose (G.count images.old) (G.count images.new)
-        × (led : Led) × IsStart (map string_bytes words.now) led.name
-        × IsLed (S.left script.old) (S.left script.new) memory.new led
-        × OthersSame (G.kept images.old) (G.kept images.new) led.name × (W.held report.new ≡ W.held report.old) }
+    // 5: of a check, what the store keeps under the name is no lawful image, and this is its first fault. Nothing was done but loading it.
+    ensures image { (f : ImageFault) → result ≡ Image f → (name : List ℕ) × IsCheck (map string_bytes words.now) name
+        × IsFaulty (G.kept images.old) name f × (W.held report.new ≡ W.held report.old) × IsNoLife (S.left script.old) (S.left script.new) (G.kept images.old) (G.kept images.new) memory.new }
 
-    // 8: the sink failed after a life was led and its image saved. A first part of its report was appended.
+    // 10: of a check, the store keeps nothing under the name. Nothing was done but looking for it.
+    ensures missing { result ≡ NoImage → (name : List ℕ) × IsCheck (map string_bytes words.now) name
+        × Finds (G.kept images.old) name None × (W.held report.new ≡ W.held report.old) × IsNoLife (S.left script.old) (S.left script.new) (G.kept images.old) (G.kept images.new) memory.new }
+
+    // 9: the image store failed: after a life was led, so that what is under the image's name is open, and nothing was written; or at the load of
+    // a check, and nothing else was done.
+    ensures unsaved { result ≡ StoreFault → Rose (G.count images.old) (G.count images.new)
+        × (((led : Led) × IsStart (map string_bytes words.now) led.name
+        × IsLed (S.left script.old) (S.left script.new) memory.new led
+        × OthersSame (G.kept images.old) (G.kept images.new) led.name × (W.held report.new ≡ W.held report.old))
+        ⊎ ((name : List ℕ) × IsCheck (map string_bytes words.now) name × (W.held report.new ≡ W.held report.old) × IsNoLife (S.left script.old) (S.left script.new) (G.kept images.old) (G.kept images.new) memory.new)) }
+
+    // 8: the sink failed: after a life was led and its image saved, and a first part of its report was appended; or of a check, and a first part of
+    // the text of the state was appended.
     ensures unwritten { result ≡ WriteFault → Rose (W.count report.old) (W.count report.new)
-        × (led : Led) × IsStart (map string_bytes words.now) led.name
+        × (((led : Led) × IsStart (map string_bytes words.now) led.name
         × IsLed (S.left script.old) (S.left script.new) memory.new led
         × HasSaved (G.kept images.old) (G.kept images.new) memory.new led
-        × AppendedSome (W.held report.old) (W.held report.new) (report_bytes led.report) }
+        × AppendedSome (W.held report.old) (W.held report.new) (report_bytes led.report))
+        ⊎ ((name : List ℕ) × IsCheck (map string_bytes words.now) name × HasCheckedSome (G.kept images.old) name (W.held report.old) (W.held report.new) × IsNoLife (S.left script.old) (S.left script.new) (G.kept images.old) (G.kept images.new) memory.new)) }
 
     // 11: memory ran out. No life is told and nothing was done but that some bytes were taken; or a life was led, what is under its image's
-    // name is open, and a first part of its report was appended.
+    // name is open, and a first part of its report was appended; or a first part of the text of the state that a check found was appended.
     ensures starved { result ≡ OutOfMemory
-        → (TookSome (S.left script.old) (S.left script.new)
-        × IsUntouched (W.held report.old) (W.held report.new) (G.kept images.old) (G.kept images.new) memory.new)
-        ⊎ ((led : Led) × IsStart (map string_bytes words.now) led.name
+        → (TookSome (S.left script.old) (S.left script.new) × IsUntouched (W.held report.old) (W.held report.new) (G.kept images.old) (G.kept images.new) memory.new)
+        ⊎ (((led : Led) × IsStart (map string_bytes words.now) led.name
         × IsLed (S.left script.old) (S.left script.new) memory.new led
         × OthersSame (G.kept images.old) (G.kept images.new) led.name
-        × AppendedSome (W.held report.old) (W.held report.new) (report_bytes led.report)) }
+        × AppendedSome (W.held report.old) (W.held report.new) (report_bytes led.report))
+        ⊎ ((name : List ℕ) × IsCheck (map string_bytes words.now) name × HasCheckedSome (G.kept images.old) name (W.held report.old) (W.held report.new) × IsNoLife (S.left script.old) (S.left script.new) (G.kept images.old) (G.kept images.new) memory.new)) }
 
-    // 3 and 10 do not come: no form that is built leads to them.
-    ensures unbuilt { (result ≢ Stalled) × (result ≢ NoImage) }
-
-    // Where nothing outside fails, the source's bytes decide on the status of a start.
+    // Where nothing outside fails, the source's bytes decide on the status of a start, and what is kept under the name on that of a check.
     ensures complete { (name : List ℕ) → IsStart (map string_bytes words.now) name
         → (Rose (S.count script.old) (S.count script.new) → ⊥)
         → (Rose (G.count images.old) (G.count images.new) → ⊥)
         → (Rose (W.count report.old) (W.count report.new) → ⊥)
         → (bytes : List ℕ) → S.left script.old ≡ Some bytes → IsDecided bytes result }
+    ensures judged { (name : List ℕ) → IsCheck (map string_bytes words.now) name
+        → (Rose (G.count images.old) (G.count images.new) → ⊥)
+        → (Rose (W.count report.old) (W.count report.new) → ⊥)
+        → (named : Named) → G.kept images.old ≡ Some named → LeadsCheckTo (get named name) result }
 {
     match respct_plain(rt.alloc(), words, script, images, report, memory) {
         PlainAnswer::Ended(status) => status,
@@ -116,11 +144,20 @@ pub fn respct_plain<S: Source, G: Images, W: Sink>(
 ) -> PlainAnswer
     requires { memory.old ≡ [] }
 
-    // 0: a life was led to its end, its image is saved, and its whole report was appended.
-    ensures finished { result ≡ Ended Finished → (led : Led) × IsStart (map string_bytes words.now) led.name
+    // 0: a life was led to its end, its image is saved, and its whole report was appended; or of a check, the image under the name is lawful,
+    // the text of the state that it recovers to was appended, and nothing else was done.
+    ensures finished { result ≡ Ended Finished → ((led : Led) × IsStart (map string_bytes words.now) led.name
         × IsLed (S.left script.old) (S.left script.new) memory.new led
         × HasSaved (G.kept images.old) (G.kept images.new) memory.new led
-        × Appended (W.held report.old) (W.held report.new) (report_bytes led.report) × (led.report.outcome ≡ ends.Finished) }
+        × Appended (W.held report.old) (W.held report.new) (report_bytes led.report) × (led.report.outcome ≡ ends.Finished))
+        ⊎ ((name : List ℕ) × IsCheck (map string_bytes words.now) name × HasChecked (G.kept images.old) name (W.held report.old) (W.held report.new) × IsNoLife (S.left script.old) (S.left script.new) (G.kept images.old) (G.kept images.new) memory.new) }
+
+    // 3: a life was led until it stalled, with each thread at its script's end or before a take of the empty queue, and one before a take; its
+    // image is saved, and its whole report was appended.
+    ensures stalled { result ≡ Ended Stalled → (led : Led) × IsStart (map string_bytes words.now) led.name
+        × IsLed (S.left script.old) (S.left script.new) memory.new led
+        × HasSaved (G.kept images.old) (G.kept images.new) memory.new led
+        × Appended (W.held report.old) (W.held report.new) (report_bytes led.report) × (led.report.outcome ≡ ends.Stalled) }
 
     // 4: the same of a life whose power was cut before its end.
     ensures cut { result ≡ Ended Cut → (led : Led) × IsStart (map string_bytes words.now) led.name
@@ -133,7 +170,7 @@ pub fn respct_plain<S: Source, G: Images, W: Sink>(
     ensures unasked { result ≡ Ended Usage → (S.left script.new ≡ S.left script.old)
         × IsUntouched (W.held report.old) (W.held report.new) (G.kept images.old) (G.kept images.new) memory.new }
 
-    // 2: the source had bytes that are no text of a script, and all of them were read. Nothing else was done.
+    // 2: the source had bytes that are refused for this fault, and all of them were read. Nothing else was done.
     ensures script { (f : ScriptFault) → result ≡ Ended (Script f) → IsNoScript (S.left script.old) (S.left script.new) f
         × IsUntouched (W.held report.old) (W.held report.new) (G.kept images.old) (G.kept images.new) memory.new }
 
@@ -145,43 +182,60 @@ pub fn respct_plain<S: Source, G: Images, W: Sink>(
     ensures too_long { result ≡ Ended TooLong → TookTooMuch (S.left script.old) (S.left script.new) × TookSome (S.left script.old) (S.left script.new)
         × IsUntouched (W.held report.old) (W.held report.new) (G.kept images.old) (G.kept images.new) memory.new }
 
-    // 9: the image store failed after a life was led. What is under the image's name is open, and nothing was written.
-    ensures unsaved { result ≡ Ended StoreFault → Rose (G.count images.old) (G.count images.new)
-        × (led : Led) × IsStart (map string_bytes words.now) led.name
-        × IsLed (S.left script.old) (S.left script.new) memory.new led
-        × OthersSame (G.kept images.old) (G.kept images.new) led.name × (W.held report.new ≡ W.held report.old) }
+    // 5: of a check, what the store keeps under the name is no lawful image, and this is its first fault. Nothing was done but loading it.
+    ensures image { (f : ImageFault) → result ≡ Ended (Image f) → (name : List ℕ) × IsCheck (map string_bytes words.now) name
+        × IsFaulty (G.kept images.old) name f × (W.held report.new ≡ W.held report.old) × IsNoLife (S.left script.old) (S.left script.new) (G.kept images.old) (G.kept images.new) memory.new }
 
-    // 8: the sink failed after a life was led and its image saved. A first part of its report was appended.
+    // 10: of a check, the store keeps nothing under the name. Nothing was done but looking for it.
+    ensures missing { result ≡ Ended NoImage → (name : List ℕ) × IsCheck (map string_bytes words.now) name
+        × Finds (G.kept images.old) name None × (W.held report.new ≡ W.held report.old) × IsNoLife (S.left script.old) (S.left script.new) (G.kept images.old) (G.kept images.new) memory.new }
+
+    // 9: the image store failed: after a life was led, so that what is under the image's name is open, and nothing was written; or at the load of
+    // a check, and nothing else was done.
+    ensures unsaved { result ≡ Ended StoreFault → Rose (G.count images.old) (G.count images.new)
+        × (((led : Led) × IsStart (map string_bytes words.now) led.name
+        × IsLed (S.left script.old) (S.left script.new) memory.new led
+        × OthersSame (G.kept images.old) (G.kept images.new) led.name × (W.held report.new ≡ W.held report.old))
+        ⊎ ((name : List ℕ) × IsCheck (map string_bytes words.now) name × (W.held report.new ≡ W.held report.old) × IsNoLife (S.left script.old) (S.left script.new) (G.kept images.old) (G.kept images.new) memory.new)) }
+
+    // 8: the sink failed: after a life was led and its image saved, and a first part of its report was appended; or of a check, and a first part of
+    // the text of the state was appended.
     ensures unwritten { result ≡ Ended WriteFault → Rose (W.count report.old) (W.count report.new)
-        × (led : Led) × IsStart (map string_bytes words.now) led.name
+        × (((led : Led) × IsStart (map string_bytes words.now) led.name
         × IsLed (S.left script.old) (S.left script.new) memory.new led
         × HasSaved (G.kept images.old) (G.kept images.new) memory.new led
-        × AppendedSome (W.held report.old) (W.held report.new) (report_bytes led.report) }
+        × AppendedSome (W.held report.old) (W.held report.new) (report_bytes led.report))
+        ⊎ ((name : List ℕ) × IsCheck (map string_bytes words.now) name × HasCheckedSome (G.kept images.old) name (W.held report.old) (W.held report.new) × IsNoLife (S.left script.old) (S.left script.new) (G.kept images.old) (G.kept images.new) memory.new)) }
 
     // 11: memory ran out. No life is told and nothing was done but that some bytes were taken; or a life was led, what is under its image's
-    // name is open, and a first part of its report was appended.
+    // name is open, and a first part of its report was appended; or a first part of the text of the state that a check found was appended.
     ensures starved { result ≡ Ended OutOfMemory
-        → (TookSome (S.left script.old) (S.left script.new)
-        × IsUntouched (W.held report.old) (W.held report.new) (G.kept images.old) (G.kept images.new) memory.new)
-        ⊎ ((led : Led) × IsStart (map string_bytes words.now) led.name
+        → (TookSome (S.left script.old) (S.left script.new) × IsUntouched (W.held report.old) (W.held report.new) (G.kept images.old) (G.kept images.new) memory.new)
+        ⊎ (((led : Led) × IsStart (map string_bytes words.now) led.name
         × IsLed (S.left script.old) (S.left script.new) memory.new led
         × OthersSame (G.kept images.old) (G.kept images.new) led.name
-        × AppendedSome (W.held report.old) (W.held report.new) (report_bytes led.report)) }
+        × AppendedSome (W.held report.old) (W.held report.new) (report_bytes led.report))
+        ⊎ ((name : List ℕ) × IsCheck (map string_bytes words.now) name × HasCheckedSome (G.kept images.old) name (W.held report.old) (W.held report.new) × IsNoLife (S.left script.old) (S.left script.new) (G.kept images.old) (G.kept images.new) memory.new)) }
 
-    // 3 and 10 do not come: no form that is built leads to them.
-    ensures unbuilt { (result ≢ Ended Stalled) × (result ≢ Ended NoImage) }
-
-    // Where nothing outside fails, the source's bytes decide on the status of a start.
+    // Where nothing outside fails, the source's bytes decide on the status of a start, and what is kept under the name on that of a check.
     ensures complete { (name : List ℕ) → IsStart (map string_bytes words.now) name
         → (Rose (S.count script.old) (S.count script.new) → ⊥)
         → (Rose (G.count images.old) (G.count images.new) → ⊥)
         → (Rose (W.count report.old) (W.count report.new) → ⊥)
         → (bytes : List ℕ) → S.left script.old ≡ Some bytes → IsDecided bytes (status_in result) }
+    ensures judged { (name : List ℕ) → IsCheck (map string_bytes words.now) name
+        → (Rose (G.count images.old) (G.count images.new) → ⊥)
+        → (Rose (W.count report.old) (W.count report.new) → ⊥)
+        → (named : Named) → G.kept images.old ≡ Some named → LeadsCheckTo (get named name) (status_in result) }
 {
     match form_of(words) {
         Some(Form::Start { image }) => {
             let ended = start(alloc, script, images, image, report, memory);
             PlainAnswer::Ended(Status::of_start(ended))
+        }
+        Some(Form::Check { image }) => {
+            let ended = check(alloc, images, image, report);
+            PlainAnswer::Ended(Status::of_check(ended))
         }
         None => PlainAnswer::Ended(Status::Usage),
     }

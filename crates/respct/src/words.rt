@@ -18,6 +18,8 @@ const OPTION_WITH_NAME: &str = "--image=";
 pub enum Form<'a> {
     /// A life over formatted memory, whose image is kept under this name.
     Start { image: &'a str },
+    /// The judgement of the image under this name.
+    Check { image: &'a str },
 }
 
 /// The form that the words have.
@@ -25,9 +27,11 @@ pub fn form_of(words: &[String]) -> Option<Form<'_>>
     ensures { MatchOption result (AreOfNoForm (map string_bytes words.now)) (AreWordsOf (map string_bytes words.now)) }
 {
     let (word, options) = words.split_first()?;
+    let image = image_name(options)?;
     if word.as_str() == "start" {
-        let image = image_name(options)?;
         Some(Form::Start { image })
+    } else if word.as_str() == "check" {
+        Some(Form::Check { image })
     } else {
         None
     }

@@ -1,4 +1,0 @@
-pub mod Phases
-pub mod Rooms
-pub mod Life
-pub mod Laws
