@@ -9,5 +9,4 @@ pub mod Saves
 pub mod Answering
 pub mod Loads
 pub mod Judging
-pub mod Misfits
 pub mod Checks

@@ -5,4 +5,3 @@ pub mod Answers
 pub mod Steps
 pub mod Loads
 pub mod Checks
-pub mod Misfits

@@ -4,7 +4,6 @@
 
 mod answer;
 mod checking;
-mod fitting;
 mod living;
 mod loading;
 mod reading;
