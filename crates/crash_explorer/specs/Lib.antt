@@ -1,0 +1,7 @@
+pub mod Cut
+pub mod Order
+pub mod Listed
+pub mod Better
+pub mod Answers
+pub mod Sample
+pub mod Runs
