@@ -1,5 +1,5 @@
 -- An odometer of counts: each goes on to the next, and all are met.
-use Rattle.std.proofs.Common.{◌≡◌, ℕ, zero, suc, ◌+◌, ◌*◌, ◌-◌, ◌<◌, ◌≤◌, Bool, true, false, cond, nat_lt, List, [], ◌∷◌, length, slice_index, set, replicate, ap, sym, ◌∙◌, refl, subst, arith, inl, inr, ◌⊎◌, ltb-true, ltb-false, le-ltb, lt-ltb}
+use Rattle.std.proofs.Common.{◌≡◌, ℕ, zero, suc, ◌+◌, ◌*◌, ◌<◌, ◌≤◌, Bool, true, false, cond, nat_lt, List, [], ◌∷◌, length, slice_index, set, replicate, ap, refl, arith, inl, inr, ◌⊎◌, ltb-true, ltb-false, le-ltb, lt-ltb}
 use Rattle.std.proofs.lemmas.Bool.{cases_lt}
 use Rattle.std.proofs.Math.Nat.{mul-le-mul_left, mul-add}
 use Rattle.crash_explorer.specs.Cut.{AreWithin}
@@ -161,26 +161,3 @@ none_earlier (suc n) (v ∷ vs) e = elim e [
 pub first-within : (ms : List ℕ) → AreWithin (replicate (length ms) 0) ms
 first-within [] = tt
 first-within (m ∷ ms) = (omega arith, first-within ms)
-
--- counts within lines are not before themselves
-pub not_earlier : (vs : List ℕ) → Earlier vs vs → ⊥
-not_earlier [] e = e
-not_earlier (v ∷ vs) e = elim e [
-  | inl before ↦ not_earlier vs before
-  | inr same ↦ omega (arith, same.1)
-]
-
--- of two counts one comes before the other at the most
-pub one_earlier : (vs ks : List ℕ) → Earlier vs ks → Earlier ks vs → ⊥
-one_earlier [] ks e f = e
-one_earlier (v ∷ vs) [] e f = e
-one_earlier (v ∷ vs) (k ∷ ks) e f = elim e [
-  | inl before ↦ elim f [
-    | inl behind ↦ one_earlier vs ks before behind
-    | inr same ↦ not_earlier vs (subst (λ (xs : List ℕ). Earlier vs xs) same.0 before)
-  ]
-  | inr same ↦ elim f [
-    | inl behind ↦ not_earlier ks (subst (λ (xs : List ℕ). Earlier ks xs) same.0 behind)
-    | inr other ↦ omega (arith, same.1, other.1)
-  ]
-]

@@ -1,11 +1,11 @@
 -- The first survivor that is wrong, found while an odometer goes through all of them.
-use Rattle.std.proofs.Common.{◌≡◌, ℕ, ◌+◌, ◌<◌, ◌≤◌, Bool, true, false, Option, Some, None, List, [], ◌∷◌, length, sum, replicate, ap, sym, ◌∙◌, refl, subst, arith, inl, inr, ◌⊎◌, IsTrue, ◌↔◌}
+use Rattle.std.proofs.Common.{◌≡◌, ℕ, ◌<◌, ◌≤◌, Bool, true, false, Option, Some, None, List, sum, ap, sym, ◌∙◌, subst, arith, inl, inr, ◌⊎◌, IsTrue, ◌↔◌}
 use Rattle.crash_explorer.specs.declared.outcome.Outcome.{Outcome}
 use Rattle.crash_explorer.specs.declared.trial.Found.{Found}
 use Rattle.crash_explorer.specs.Cut.{Cut, AreWithin, pending_of, by_counts, is_right, recovers_to, state_of, IsVerdict}
-use Rattle.crash_explorer.specs.Order.{Earlier, Precedes}
+use Rattle.crash_explorer.specs.Order.{Earlier}
 use Rattle.crash_explorer.specs.Better.{IsFewer, Names, IsBetter}
-use Rattle.crash_explorer.specs.Answers.{IsWrong, IsFirst, IsWholeAnswer}
+use Rattle.crash_explorer.specs.Answers.{IsWrong, IsWholeAnswer}
 use Rattle.crash_explorer.proofs.Keeping.{safe_by_counts}
 
 -- the survivor by these counts is right

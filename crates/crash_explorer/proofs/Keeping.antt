@@ -1,5 +1,5 @@
 -- What lines keep by counts, and that counts name every survivor.
-use Rattle.std.proofs.Common.{◌≡◌, ℕ, zero, suc, ◌+◌, ◌<◌, ◌≤◌, Bool, true, List, [], ◌∷◌, length, min, map, take, slice_index, ap, sym, ◌∙◌, refl, subst, arith, eq-eqb, ne_eqb, inl, inr}
+use Rattle.std.proofs.Common.{◌≡◌, ℕ, zero, suc, ◌+◌, ◌<◌, true, List, [], ◌∷◌, length, min, slice_index, ap, sym, ◌∙◌, refl, subst, arith, eq-eqb, ne_eqb, inl, inr}
 use Rattle.std.proofs.lemmas.Bool.{cases_lt}
 use Rattle.std.proofs.lemmas.List.{take_all}
 use Rattle.line_memory.specs.Line.{LineState, survivor, line_at, applied}
@@ -8,7 +8,7 @@ use Rattle.store_order.specs.declared.choice.Kept.{Kept}
 use Rattle.store_order.specs.declared.choice.Choice.TheVariants.{List as Listed}
 use Rattle.store_order.specs.Choice.{count_listed, kept_of}
 use Rattle.std.specs.Global.{Vec}
-use Rattle.crash_explorer.specs.Cut.{Cut, AreWithin, pending_of, by_counts, is_right, is_allowed, recovers_to, IsSafe}
+use Rattle.crash_explorer.specs.Cut.{Cut, AreWithin, pending_of, by_counts, is_right, is_allowed, IsSafe}
 use Rattle.crash_explorer.specs.Listed.{listed}
 use Rattle.crash_explorer.proofs.Advancing.{within-at, within-length}
 

@@ -1,9 +1,8 @@
 -- One more event of a run, and what the answers rest on.
-use Rattle.std.proofs.Common.{◌≡◌, ℕ, zero, suc, ◌+◌, ◌-◌, ◌^◌, ◌<◌, ◌≤◌, Bool, true, false, Option, Some, None, List, length, min, nat_le, cond, ◌&&◌, ap, sym, ◌∙◌, refl, subst, arith, below_more, add-one, leb-true, leb-false}
+use Rattle.std.proofs.Common.{◌≡◌, ℕ, suc, ◌+◌, ◌-◌, ◌^◌, Bool, true, false, None, min, ◌&&◌, ap, sym, ◌∙◌, refl, arith, below_more, add-one, leb-true, leb-false}
 use Rattle.crash_explorer.specs.declared.plan.Plan.{Plan}
-use Rattle.crash_explorer.specs.declared.behind.Trial.{Trial}
 use Rattle.crash_explorer.specs.Cut.{Cut, IsSafe}
-use Rattle.crash_explorer.specs.Runs.{survivors_of, is_whole, tried_at, IsFoundAt, IsTrialOf, after, tried_behind, AreRightBehind, IsSomePartial, AreSafeBehind}
+use Rattle.crash_explorer.specs.Runs.{survivors_of, is_whole, tried_at, IsFoundAt, after, tried_behind, AreRightBehind, IsSomePartial, AreSafeBehind}
 
 -- one more event is made, and what is tried behind it is right
 pub right-more : {S : Type 0} (plan : Plan) (cut : S → Cut) (next : S → S) (goes_on : S → Bool) (s : S) (n : ℕ) → AreRightBehind plan cut next goes_on s n → goes_on (after next n s) ≡ true

@@ -1,6 +1,6 @@
 -- Counts that a choice of a sample keeps.
-use Rattle.std.proofs.Common.{◌≡◌, ℕ, zero, suc, ◌+◌, ◌-◌, ◌<◌, ◌≤◌, Bool, true, List, [], ◌∷◌, length, slice_index, replicate, ap, sym, ◌∙◌, refl, subst, arith, Option, Some, None, below_more}
-use Rattle.line_memory.specs.Line.{LineState, line_at}
+use Rattle.std.proofs.Common.{◌≡◌, ℕ, zero, suc, ◌+◌, ◌-◌, ◌<◌, ◌≤◌, true, List, [], ◌∷◌, length, slice_index, replicate, ap, sym, ◌∙◌, refl, subst, arith, Some, None, below_more}
+use Rattle.line_memory.specs.Line.{line_at}
 use Rattle.room_model.specs.Image.{surviving_lines}
 use Rattle.store_order.specs.declared.choice.Choice.{Choice}
 use Rattle.store_order.specs.declared.choice.Choice.TheVariants.{Nothing, All, Seed}
@@ -10,7 +10,7 @@ use Rattle.crash_explorer.specs.Cut.{Cut, AreWithin, pending_of, by_counts, is_r
 use Rattle.crash_explorer.specs.Sample.{AreKeptBy, sample, sample_size, AreSamplesRight, IsFirstSample}
 use Rattle.crash_explorer.specs.Answers.{IsWrong}
 use Rattle.crash_explorer.specs.declared.outcome.Outcome.{Outcome}
-use Rattle.crash_explorer.proofs.Keeping.{left_of, left_of-counts, left_of-own, length-pending, pending-at}
+use Rattle.crash_explorer.proofs.Keeping.{left_of-counts, left_of-own, length-pending, pending-at}
 
 -- counts of which each is at most its line's are within the lines
 within-each : (ks ms : List ℕ) → length ks ≡ length ms → ((i : ℕ) → i < length ms → slice_index ks i ≤ slice_index ms i) → AreWithin ks ms

@@ -1,10 +1,9 @@
 -- What was found at one cut, where all its survivors were tried.
-use Rattle.std.specs.Prelude.{◌≡◌, ℕ, zero, suc, ◌+◌, ◌<◌, ◌≤◌, Bool, true, false, Option, Some, None, List, [], ◌∷◌, length, slice_index}
-use Rattle.line_memory.specs.Line.{LineState}
+use Rattle.std.specs.Prelude.{◌≡◌, ℕ, true, false, Option, Some, None, List}
 use Rattle.crash_explorer.specs.declared.outcome.Outcome.{Outcome}
 use Rattle.crash_explorer.specs.declared.trial.Found.{Found}
 use Rattle.crash_explorer.specs.Cut.{Cut, IsSafe, AreWithin, pending_of, by_counts, is_right, recovers_to, state_of}
-use Rattle.crash_explorer.specs.Order.{Precedes, survivor_count}
+use Rattle.crash_explorer.specs.Order.{Precedes}
 
 -- the counts name a survivor of the cut that is wrong, and the outcome is what it recovers to
 pub record IsWrong (steps : ℕ) (cut : Cut) (kept : List ℕ) (outcome : Outcome) : Type 0 where

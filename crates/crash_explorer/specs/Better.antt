@@ -1,5 +1,5 @@
 -- The better of two survivors that are wrong.
-use Rattle.std.specs.Prelude.{◌≡◌, ℕ, ◌<◌, ◌≤◌, ◌⊎◌, Option, Some, None, List, sum, IsSome}
+use Rattle.std.specs.Prelude.{◌≡◌, ℕ, ◌<◌, ◌⊎◌, Option, Some, None, List, sum}
 use Rattle.crash_explorer.specs.declared.outcome.Outcome.{Outcome}
 use Rattle.crash_explorer.specs.declared.trial.Found.{Found}
 

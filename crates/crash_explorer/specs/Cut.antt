@@ -1,6 +1,6 @@
 -- A power cut: what its survivors recover to, and whether that is right.
-use Rattle.std.specs.Prelude.{◌≡◌, ℕ, ◌≤◌, ◌<◌, Bool, true, false, Option, Some, None, List, [], ◌∷◌, length, map, slice_index}
-use Rattle.line_memory.specs.Line.{LineState, line_at}
+use Rattle.std.specs.Prelude.{◌≡◌, ℕ, ◌≤◌, Bool, true, false, Option, Some, None, List, [], ◌∷◌, length, map, slice_index}
+use Rattle.line_memory.specs.Line.{LineState}
 use Rattle.room_model.specs.Image.{surviving_lines}
 use Rattle.crash_explorer.specs.declared.outcome.Outcome.{Outcome}
 use Rattle.crash_explorer.specs.declared.outcome.Outcome.TheVariants.{State, Refused, Endless}

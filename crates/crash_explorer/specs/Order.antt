@@ -1,5 +1,5 @@
 -- The order in which survivors are named: by how many stores they keep, and else line by line from the last.
-use Rattle.std.specs.Prelude.{◌≡◌, ℕ, suc, zero, ◌+◌, ◌*◌, ◌-◌, ◌<◌, ◌⊎◌, Bool, true, false, sum, List, [], ◌∷◌, if◌then◌else◌}
+use Rattle.std.specs.Prelude.{◌≡◌, ℕ, ◌+◌, ◌*◌, ◌-◌, ◌<◌, ◌⊎◌, sum, List, [], ◌∷◌}
 
 -- counts come before others: on the last line on which they differ they are less
 abbrev pub Earlier : List ℕ → List ℕ → Type 0

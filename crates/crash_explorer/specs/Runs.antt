@@ -1,6 +1,5 @@
 -- What a run found: behind each event, and of all events together.
-use Rattle.std.specs.Prelude.{◌≡◌, ℕ, zero, suc, ◌+◌, ◌-◌, ◌^◌, ◌<◌, ◌≤◌, Bool, true, false, List, length, min, nat_le, if◌then◌else◌, Option, Some, None}
-use Rattle.crash_explorer.specs.declared.outcome.Outcome.{Outcome}
+use Rattle.std.specs.Prelude.{◌≡◌, ℕ, zero, suc, ◌+◌, ◌-◌, ◌^◌, ◌<◌, ◌≤◌, Bool, true, false, min, nat_le, if◌then◌else◌, Option, None}
 use Rattle.crash_explorer.specs.declared.plan.Plan.{Plan}
 use Rattle.crash_explorer.specs.declared.answer.Tally.{Tally}
 use Rattle.crash_explorer.specs.declared.answer.Wrong.{Wrong}
@@ -11,7 +10,7 @@ use Rattle.crash_explorer.specs.declared.behind.Trial.{Trial}
 use Rattle.crash_explorer.specs.Cut.{Cut, IsSafe, pending_of}
 use Rattle.crash_explorer.specs.Order.{survivor_count}
 use Rattle.crash_explorer.specs.Answers.{IsWrong, IsFirst, IsWholeAnswer}
-use Rattle.crash_explorer.specs.Sample.{AreSamplesRight, IsFirstSample, IsSampleAnswer, sample_size}
+use Rattle.crash_explorer.specs.Sample.{IsFirstSample, IsSampleAnswer, sample_size}
 
 -- how many survivors a cut has
 abbrev pub survivors_of : Cut → ℕ

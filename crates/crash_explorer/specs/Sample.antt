@@ -1,5 +1,5 @@
 -- A sample of a cut's survivors, and what was found where they were tried.
-use Rattle.std.specs.Prelude.{◌≡◌, ℕ, zero, suc, ◌+◌, ◌<◌, Bool, true, Option, Some, None, List, length, slice_index}
+use Rattle.std.specs.Prelude.{◌≡◌, ℕ, zero, suc, ◌+◌, ◌<◌, true, Option, Some, None, List, length, slice_index}
 use Rattle.store_order.specs.declared.choice.Choice.{Choice}
 use Rattle.store_order.specs.declared.choice.Choice.TheVariants.{Nothing, All, Seed}
 use Rattle.store_order.specs.Choice.{kept_by, kept_of}

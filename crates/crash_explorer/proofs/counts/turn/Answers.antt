@@ -1,5 +1,4 @@
-use Rattle.std.proofs.Common.{◌≡◌, ◌+◌, ◌<◌, length, List, ℕ, true, false, slice_index, slice_set, subst, sym, ◌∙◌, ap, arith, add-one}
-use Rattle.crash_explorer.specs.Cut.{AreWithin}
+use Rattle.std.proofs.Common.{◌≡◌, ◌+◌, ◌<◌, length, List, ℕ, true, slice_index, slice_set, subst, sym, ◌∙◌, ap, arith, add-one}
 use Rattle.crash_explorer.specs.Order.{Earlier, ahead}
 use Rattle.crash_explorer.proofs.Advancing.{advanced, has_next, advanced_from, has_next_from, full_next, full_more, free_next, free_more, none_next, within-length, within-set, next-earlier, last-earlier, next-nearer}
 use Rattle.crash_explorer.proofs.counts.turn.Goals as goal

@@ -1,4 +1,4 @@
-use Rattle.std.proofs.Common.{◌≡◌, Option, Some, sym, ap, ◌∙◌, refl, subst, inl, inr, sum, List, ℕ}
+use Rattle.std.proofs.Common.{◌≡◌, Option, Some, sym, refl, subst, inl, inr, sum}
 use Rattle.crash_explorer.specs.declared.outcome.Outcome.{Outcome}
 use Rattle.crash_explorer.specs.Better.{IsBetter}
 use Rattle.crash_explorer.proofs.Finding.{not_fewer, are_fewer}

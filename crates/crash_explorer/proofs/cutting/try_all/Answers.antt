@@ -1,5 +1,4 @@
-use Rattle.std.proofs.Common.{◌≡◌, ◌<◌, ℕ, List, length, sum, sym, ap, ◌∙◌, subst, arith, replicate, ◌⊎◌}
-use Rattle.crash_explorer.specs.declared.trial.Found.{Found}
+use Rattle.std.proofs.Common.{◌≡◌, ℕ, List, length, sym, subst, arith, replicate}
 use Rattle.crash_explorer.specs.Cut.{AreWithin, pending_of, by_counts, IsVerdict}
 use Rattle.crash_explorer.specs.Better.{IsBetter}
 use Rattle.crash_explorer.proofs.Advancing.{within-length, none_earlier, first-within}

@@ -1,9 +1,7 @@
-use Rattle.std.proofs.Common.{◌≡◌, ℕ, List, Option, Some, None, sym, ◌∙◌, subst, arith, below_more}
-use Rattle.store_order.specs.Choice.{kept_of}
-use Rattle.crash_explorer.specs.declared.outcome.Outcome.{Outcome}
-use Rattle.crash_explorer.specs.Cut.{AreWithin, pending_of, by_counts, is_right, IsVerdict}
+use Rattle.std.proofs.Common.{ℕ, List, Some, None, sym, subst}
+use Rattle.crash_explorer.specs.Cut.{AreWithin, pending_of, by_counts, IsVerdict}
 use Rattle.crash_explorer.specs.Sample.{AreKeptBy, sample}
-use Rattle.crash_explorer.proofs.Samples.{kept-within, kept-right, right-more, found-first}
+use Rattle.crash_explorer.proofs.Samples.{kept-within, right-more, found-first}
 use Rattle.crash_explorer.proofs.sampling.try_sample.Goals as goal
 
 pub try_counts-requires : goal.try_counts-requires
