@@ -2,7 +2,7 @@
 use Rattle.std.proofs.Common.{◌≡◌, ℕ, ◌<◌, ◌≤◌, Bool, true, false, Option, Some, None, List, sum, ap, sym, ◌∙◌, subst, arith, inl, inr, ◌⊎◌, IsTrue, ◌↔◌}
 use Rattle.crash_explorer.specs.declared.outcome.Outcome.{Outcome}
 use Rattle.crash_explorer.specs.declared.trial.Found.{Found}
-use Rattle.crash_explorer.specs.Cut.{Cut, AreWithin, pending_of, by_counts, is_right, recovers_to, state_of, IsVerdict}
+use Rattle.crash_explorer.specs.Cut.{Cut, AreWithin, pending_of, by_counts, is_right, recovers_to, outcome_state, IsVerdict}
 use Rattle.crash_explorer.specs.Order.{Earlier}
 use Rattle.crash_explorer.specs.Better.{IsFewer, Names, IsBetter}
 use Rattle.crash_explorer.specs.Answers.{IsWrong, IsWholeAnswer}
@@ -66,7 +66,7 @@ new-met steps cut now outcome best (Some found) w verdict b less names = record 
   wrong = record {
     within = subst (λ (ks : List ℕ). AreWithin ks (pending_of cut.lines)) (sym names.0) w;
     wrong = subst (λ (ks : List ℕ). is_right steps cut (by_counts ks) ≡ false) (sym names.0) verdict.0;
-    recovers = ap state_of names.2 ∙ subst (λ (ks : List ℕ). state_of outcome ≡ recovers_to steps cut (by_counts ks)) (sym names.0) verdict.1;
+    recovers = ap outcome_state names.2 ∙ subst (λ (ks : List ℕ). outcome_state outcome ≡ recovers_to steps cut (by_counts ks)) (sym names.0) verdict.1;
   };
   stores = names.1 ∙ ap (λ (ks : List ℕ). sum ks) (sym names.0);
   fewer = λ v within m lt. elim m [

@@ -2,14 +2,14 @@
 use Rattle.std.specs.Prelude.{◌≡◌, ℕ, true, false, Option, Some, None, List}
 use Rattle.crash_explorer.specs.declared.outcome.Outcome.{Outcome}
 use Rattle.crash_explorer.specs.declared.trial.Found.{Found}
-use Rattle.crash_explorer.specs.Cut.{Cut, IsSafe, AreWithin, pending_of, by_counts, is_right, recovers_to, state_of}
+use Rattle.crash_explorer.specs.Cut.{Cut, IsSafe, AreWithin, pending_of, by_counts, is_right, recovers_to, outcome_state}
 use Rattle.crash_explorer.specs.Order.{Precedes}
 
 -- the counts name a survivor of the cut that is wrong, and the outcome is what it recovers to
 pub record IsWrong (steps : ℕ) (cut : Cut) (kept : List ℕ) (outcome : Outcome) : Type 0 where
   pub within : AreWithin kept (pending_of cut.lines)
   pub wrong : is_right steps cut (by_counts kept) ≡ false
-  pub recovers : state_of outcome ≡ recovers_to steps cut (by_counts kept)
+  pub recovers : outcome_state outcome ≡ recovers_to steps cut (by_counts kept)
 
 -- each survivor of the cut that precedes this one is right
 abbrev pub IsFirst : ℕ → Cut → List ℕ → Type 0

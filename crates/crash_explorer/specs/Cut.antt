@@ -13,10 +13,10 @@ pub record Cut : Type 0 where
   pub allows : List ℕ → Bool
 
 -- the state of an outcome, where there is one
-abbrev pub state_of : Outcome → Option (List ℕ)
-state_of (State words) = Some words.items
-state_of Refused = None
-state_of Endless = None
+abbrev pub outcome_state : Outcome → Option (List ℕ)
+outcome_state (State words) = Some words.items
+outcome_state Refused = None
+outcome_state Endless = None
 
 -- the state to which the survivor of a choice recovers within so many steps, where it does
 abbrev pub recovers_to : ℕ → Cut → (ℕ → ℕ) → Option (List ℕ)
@@ -53,4 +53,4 @@ AreWithin (k ∷ ks) (m ∷ ms) = (k ≤ m) × AreWithin ks ms
 -- what came of a survivor: nothing where it is right, else what it recovers to
 abbrev pub IsVerdict : ℕ → Cut → (ℕ → ℕ) → Option Outcome → Type 0
 IsVerdict steps cut choice None = is_right steps cut choice ≡ true
-IsVerdict steps cut choice (Some outcome) = (is_right steps cut choice ≡ false) × (state_of outcome ≡ recovers_to steps cut choice)
+IsVerdict steps cut choice (Some outcome) = (is_right steps cut choice ≡ false) × (outcome_state outcome ≡ recovers_to steps cut choice)

@@ -5,3 +5,4 @@ pub mod Better
 pub mod Answers
 pub mod Sample
 pub mod Runs
+pub mod Tests

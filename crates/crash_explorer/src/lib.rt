@@ -23,6 +23,8 @@ mod plan;
 mod run;
 mod sampling;
 mod subject;
+#[cfg(test)]
+mod tests;
 mod trial;
 mod watcher;
 

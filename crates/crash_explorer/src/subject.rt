@@ -1,7 +1,7 @@
 //! Stores under test.
 
 ghost use Rattle.std.specs.Prelude.{◌≡◌, Bool, true, IfOk, List};
-ghost use Rattle.crash_explorer.specs.Cut.{Cut, state_of};
+ghost use Rattle.crash_explorer.specs.Cut.{Cut, outcome_state};
 
 use crate::outcome::Outcome;
 use line_memory::Bank;
@@ -27,7 +27,7 @@ pub trait Subject {
 
     /// Recovers from these words of the lines, in so many steps at the most. It reads nothing of the running store but its settings.
     fn recover(&self, alloc: Global, left: Vec<[u64; 8]>, steps: u32) -> Result<Outcome, AllocError>
-        ensures { IfOk result (λ outcome. state_of outcome ≡ (cut self.now).recovered steps left.items) };
+        ensures { IfOk result (λ outcome. outcome_state outcome ≡ (cut self.now).recovered steps left.items) };
 
     /// Whether a cut now may recover to this state, by what the store has acknowledged.
     fn is_allowed(&self, state: &[u64]) -> bool
