@@ -22,9 +22,7 @@ pub fn place_in(memory: &Memory, settings: Settings, thread: u32) -> u64
     ensures { (o : Opening) → o.settings ≡ settings → ResumesFrom (sizes o) (image_of memory.now nothing_kept) o → result ≡ opening_place o thread }
 {
     let epoch = memory_epoch_in(memory);
-    let words = memory
-        .bank(settings.sizes().thread_room(thread))
-        .base(0);
+    let words = memory.bank(settings.sizes().thread_room(thread)).base(0);
     if words[TAG as usize] == u64::from(epoch) {
         words[3]
     } else {
