@@ -406,11 +406,7 @@ fn faults_of_reports(rt: HostRuntime) -> Result<(), Fail> {
     ];
     for (number, with, line) in rows {
         let text = text_with(alloc, PUT_REPORT, number, with)?;
-        assert_eq!(rt;
-            fault_line(read_report(alloc, text.as_bytes())),
-            line,
-            "{with}"
-        );
+        assert_eq!(rt; fault_line(report_in(alloc, text.as_str())), line, "{with}");
     }
     Ok(())
 }
