@@ -1,8 +1,9 @@
 //! A worker, and its turn: the first row of the table that applies.
 
-ghost use Rattle.std.specs.Prelude.{◌≡◌, ◌<◌, ◌≤◌, length, false, IfOk};
+ghost use Rattle.std.specs.Prelude.{◌≡◌, ◌<◌, ◌≤◌, length, false, nat_lt, if◌then◌else◌, IfOk};
 ghost use Rattle.seq_object.specs.Sizes.{IsValid};
 ghost use Rattle.life_model.specs.Life.{script_of, opening_place};
+ghost use Rattle.restart_point.specs.declared.thread_end.ThreadEnd.TheVariants.{Ready, Ended};
 ghost use Rattle.yard_model.specs.declared.view.Beginning.{Beginning as TheBeginning};
 ghost use Rattle.yard_model.specs.Beginnings.{opening_of};
 ghost use Rattle.yard_model.specs.Opens.{opening_view};
@@ -70,6 +71,7 @@ impl Worker {
         requires short { length commands.now ≤ 4096 }
         requires place { position ≤ length commands.now }
         ensures begins { IfOk result (λ worker. (b : TheBeginning) → b.settings ≡ settings → script_of b.scripts thread ≡ commands.now → opening_place (opening_of b) thread ≡ position → IsWorker worker (opening_view b thread)) }
+        ensures end { IfOk result (λ worker. worker.end ≡ (if nat_lt position (length commands.now) then Ready else Ended)) }
     {
         let end = if (position as usize) < commands.len() {
             ThreadEnd::Ready
