@@ -39,7 +39,7 @@ total_first f zero = omega arith
 total_first f (suc n) = let a = total_first f n in omega (arith, a)
 
 -- the commands of all scripts
-all_commands : (scripts : List (List Command)) → total (λ j. length (script_of scripts j)) (length scripts) ≡ commands_in scripts
+pub all_commands : (scripts : List (List Command)) → total (λ j. length (script_of scripts j)) (length scripts) ≡ commands_in scripts
 all_commands [] = refl
 all_commands (s ∷ ss) = let a = all_commands ss in total_first (λ j. length (script_of (s ∷ ss) j)) (length ss) ∙ ap (λ (n : ℕ). length s + n) a
 

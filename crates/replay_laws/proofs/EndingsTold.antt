@@ -32,7 +32,7 @@ use Rattle.plain_yard.specs.Shown.{ShownYard, IsLawfulYard}
 use Rattle.replay_model.specs.Endings.{IsReportOfYard, IsFreshStart, StartIsToldLaw, ResumeIsToldLaw}
 
 -- marks that were given epochs cover what they covered before
-lengths_from : (epoch : ℕ) (ns : List ℕ) → lengths (marks_from epoch ns) ≡ ns
+pub lengths_from : (epoch : ℕ) (ns : List ℕ) → lengths (marks_from epoch ns) ≡ ns
 lengths_from epoch [] = refl
 lengths_from epoch (n ∷ ns) = ap (λ (ms : List ℕ). n ∷ ms) (lengths_from (suc epoch) ns)
 

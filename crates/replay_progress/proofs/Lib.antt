@@ -1,5 +1,5 @@
 mod Hands
-mod Opening
+pub mod Opening
 mod TurnRooms
 mod TurnFew
 mod TurnShown
@@ -11,6 +11,6 @@ mod TurnEmpty
 mod TurnStanding
 mod TurnClosing
 mod Turn
-mod Refused
-mod Runs
-mod Whole
+pub mod Refused
+pub mod Runs
+pub mod Whole

@@ -12,3 +12,12 @@ mod Turning
 mod Counting
 mod Going
 mod Rising
+mod Enough
+mod FirstTurns
+mod FewTorn
+mod HandedOver
+mod RunsIn
+mod Placed
+mod Resumed
+pub mod StartsTold
+pub mod Checked

@@ -1,9 +1,8 @@
 -- The report of a yard whose rooms are all at home.
-use Rattle.std.proofs.Common.{◌≡◌, ◌≤◌, ℕ, Bool, false, List, length, sym, ap, ◌∙◌, subst, arith}
+use Rattle.std.proofs.Common.{◌≡◌, ◌≤◌, ℕ, Bool, List, length, sym, ◌∙◌, subst, arith}
 use Rattle.std.specs.Prelude.{vec_capacity}
 use Rattle.seq_object.specs.declared.history.Entry.{Entry}
 use Rattle.line_memory.specs.Line.{BankState}
-use Rattle.life_model.specs.declared.life.Life.TheVariants.{Start}
 use Rattle.life_model.specs.declared.life.Outcome.{Outcome}
 use Rattle.life_model.specs.Life.{reported}
 use Rattle.life_model.specs.Told.{ReportState, is_resume}
@@ -30,21 +29,19 @@ pub record IsReadOff (y : ShownYard) (listed : List Entry) (numbers : List ℕ) 
   pub held : NamesDead y.beginning y.told.world numbers
   pub waits : TellsWaiting waiting y.beginning y.told.world
 
--- what the code sets of itself in a report of a start
-pub record IsOfStart (y : ShownYard) (r : ReportState) (dry ended waiting : Bool) : Type 0 where
-  pub start : y.beginning.life ≡ Start
-  pub epoch : y.beginning.epoch ≡ 1
-  pub resumed : r.resumed ≡ false
-  pub began : r.began ≡ 1
+-- what the code sets of itself in a report
+pub record IsSetFor (y : ShownYard) (r : ReportState) (dry ended waiting : Bool) : Type 0 where
+  pub resumed : r.resumed ≡ is_resume y.beginning.life
+  pub began : r.began ≡ y.beginning.epoch
   pub marks : r.marks ≡ reported (opening_of y.beginning) (marks_of y.beginning y.told.checkpoints)
   pub over : ended ≡ is_set (arrival y.told.world) 17
   pub outcome : r.outcome ≡ outcome_of dry ended waiting
 
-pub is_report : (y : ShownYard) (r : ReportState) (dry over waits : Bool) (memory : List BankState) → IsLawfulYard y → IsOfStart y r dry over waits
+pub is_report : (y : ShownYard) (r : ReportState) (dry over waits : Bool) (memory : List BankState) → IsLawfulYard y → IsSetFor y r dry over waits
     → IsReadOff y r.entries r.held waits memory → IsReportOfYard y r memory
 is_report y r dry over waits memory lawful of read = record {
-  resumed = of.resumed ∙ sym (ap is_resume of.start);
-  began = of.began ∙ sym of.epoch;
+  resumed = of.resumed;
+  began = of.began;
   entries = read.entries;
   marks = of.marks;
   memory_of = read.memory_of;

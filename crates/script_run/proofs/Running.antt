@@ -1,69 +1,68 @@
--- Runs turn by turn: what a schedule's first turns lead to, and the whole run then.
-use Rattle.std.proofs.Common.{◌≡◌, ℕ, zero, suc, ◌+◌, ◌⊎◌, Bool, true, false, List, [], ◌∷◌, drop, Some, None, Ok, Err, refl, sym, ap, ◌∙◌, subst, arith}
+-- Runs turn by turn: what holds behind the turns that are given, behind one more, and behind the last.
+use Rattle.std.proofs.Common.{◌≡◌, ℕ, zero, suc, ◌+◌, ◌⊎◌, true, false, List, [], ◌∷◌, ◌++◌, take, drop, Some, None, Ok, Err, refl, sym, ap, ◌∙◌, subst}
 use Rattle.std.specs.Prelude.{slice_get}
 use Rattle.std.specs.declared.alloc.AllocError.{AllocError}
-use Rattle.std.proofs.lemmas.Option.{none-some, same_Some}
+use Rattle.std.proofs.lemmas.List.{take_more, take-append-drop}
+use Rattle.std.proofs.lemmas.Option.{none-some, same_Some, slice_get_within, get_or_from_slice_get}
 use Rattle.worker_model.specs.declared.hand.Turn.{Turn}
-use Rattle.replay_model.specs.Replays.{ReplayState, is_over_in, TurnOf, RunsBy, Runs, RunsDry}
+use Rattle.replay_model.specs.Replays.{ReplayState, is_over_in, TurnOf, Runs, RunsDry}
+use Rattle.replay_model.specs.Kept.{IsReplay}
+use Rattle.replay_progress.specs.Runs.{RunsKept}
+use Rattle.replay_progress.proofs.Runs.{kept_runs, kept_run_goes_on, kept_run_stays}
+use Rattle.script_run.specs.Runs.{DriesKept}
 
--- a run that is over stays
-pub runs_over : (turns : List ℕ) (s : ReplayState) → is_over_in s ≡ true → Runs turns s s
-runs_over [] s over = refl
-runs_over (i ∷ is) s over = subst (λ (b : Bool). RunsBy b i (Runs is) s s) (sym over) refl
-
--- one turn more at the front, of a state that is not over
-pub runs_behind : (i : ℕ) (is : List ℕ) (s m t : ReplayState) (answer : Turn) → is_over_in s ≡ false → TurnOf i s (Ok answer) m → Runs is m t → Runs (i ∷ is) s t
-runs_behind i is s m t answer on turn rest = subst (λ (b : Bool). RunsBy b i (Runs is) s t) (sym on) (answer, m, turn, rest)
-
-pub dries_behind : (i : ℕ) (is : List ℕ) (s m t : ReplayState) (answer : Turn) → is_over_in s ≡ false → TurnOf i s (Ok answer) m → RunsDry is m t → RunsDry (i ∷ is) s t
-dries_behind i is s m t answer on turn dry = record {
-  front = i ∷ dry.front;
-  thread = dry.thread;
-  back = dry.back;
-  turns_are = ap (λ (l : List ℕ). i ∷ l) dry.turns_are;
-  last = dry.last;
-  runs = runs_behind i dry.front s m dry.last answer on turn dry.runs;
-  not_over = dry.not_over;
-  refused = dry.refused;
+-- a run at whose last turn memory ran out is one
+pub dries_kept : (turns : List ℕ) (s t : ReplayState) → DriesKept turns s t → RunsDry turns s t
+dries_kept turns s t dries = record {
+  front = dries.front;
+  thread = dries.thread;
+  back = dries.back;
+  turns_are = dries.turns_are;
+  last = dries.last;
+  runs = kept_runs dries.front s dries.last dries.runs;
+  not_over = dries.not_over;
+  refused = dries.refused;
 }
 
--- a first turn that is refused
-pub dries_here : (i : ℕ) (is : List ℕ) (s t : ReplayState) → is_over_in s ≡ false → ((error : AllocError) × TurnOf i s (Err error) t) ⊎ (t ≡ s) → RunsDry (i ∷ is) s t
-dries_here i is s t on refused = record { front = []; thread = i; back = is; turns_are = refl; last = s; runs = refl; not_over = on; refused = refused }
+-- THE TURNS THAT ARE GIVEN: with one more;
+one_more : (turns : List ℕ) (given i : ℕ) → slice_get turns given ≡ Some i → take (given + 1) turns ≡ take given turns ++ i ∷ []
+one_more turns given i at = take_more turns given i (slice_get_within turns given i at) ∙ ap (λ (k : ℕ). take given turns ++ k ∷ []) (get_or_from_slice_get turns given i i at)
 
--- THE TURNS THAT ARE LEFT of a schedule, where so many are given.
-pub left_at : (turns : List ℕ) (given i : ℕ) → slice_get turns given ≡ Some i → drop given turns ≡ i ∷ drop (given + 1) turns
-left_at [] given i at = absurd (none-some i at)
-left_at (x ∷ xs) zero i at = ap (λ (k : ℕ). k ∷ xs) (same_Some x i at)
-left_at (x ∷ xs) (suc given) i at = let e : suc (given + 1) ≡ suc given + 1 = omega arith in left_at xs given i at ∙ ap (λ (k : ℕ). i ∷ drop k (x ∷ xs)) e
+-- and the turn behind them, with the rest;
+next_of : (turns : List ℕ) (given i : ℕ) → slice_get turns given ≡ Some i → drop given turns ≡ i ∷ drop (suc given) turns
+next_of [] given i at = absurd (none-some i at)
+next_of (x ∷ xs) zero i at = ap (λ (k : ℕ). k ∷ xs) (same_Some x i at)
+next_of (x ∷ xs) (suc given) i at = next_of xs given i at
 
-pub none_left : (turns : List ℕ) (given : ℕ) → slice_get turns given ≡ None → drop given turns ≡ []
-none_left [] zero at = refl
-none_left [] (suc given) at = refl
-none_left (x ∷ xs) zero at = absurd (none-some x (sym at))
-none_left (x ∷ xs) (suc given) at = none_left xs given at
+-- and all of them, where no turn is left
+all_given : (turns : List ℕ) (given : ℕ) → slice_get turns given ≡ None → take given turns ≡ turns
+all_given [] zero at = refl
+all_given [] (suc given) at = refl
+all_given (x ∷ xs) zero at = absurd (none-some x (sym at))
+all_given (x ∷ xs) (suc given) at = ap (λ (l : List ℕ). x ∷ l) (all_given xs given at)
 
--- whatever these turns come to from the state now, the whole schedule comes to
-pub record LeadsTo (turns : List ℕ) (s : ReplayState) (given : ℕ) (now : ReplayState) : Type 0 where
-  pub runs : (t : ReplayState) → Runs (drop given turns) now t → Runs turns s t
-  pub dries : (t : ReplayState) → RunsDry (drop given turns) now t → RunsDry turns s t
-
-module _ (turns : List ℕ) (s : ReplayState) (given : ℕ) (now : ReplayState) (leads : LeadsTo turns s given now) where
+module _ (turns : List ℕ) (s : ReplayState) (given : ℕ) (now : ReplayState) (ran : RunsKept (take given turns) s now) where
   -- the run ends where the life is over, and where no turn is left
-  pub ends_over : is_over_in now ≡ true → Runs turns s now
-  ends_over over = leads.runs now (runs_over (drop given turns) now over)
+  pub ends_over : is_over_in now ≡ true → RunsKept turns s now
+  ends_over over = subst (λ (l : List ℕ). RunsKept l s now) (take-append-drop given turns) (kept_run_stays (take given turns) (drop given turns) s now ran over)
 
-  pub ends_spent : slice_get turns given ≡ None → Runs turns s now
-  ends_spent none = leads.runs now (subst (λ (l : List ℕ). Runs l now now) (sym (none_left turns given none)) refl)
+  pub ends_spent : slice_get turns given ≡ None → RunsKept turns s now
+  ends_spent none = subst (λ (l : List ℕ). RunsKept l s now) (all_given turns given none) ran
 
   module _ (i : ℕ) (at : slice_get turns given ≡ Some i) (on : is_over_in now ≡ false) where
-    -- one turn more leads on
-    pub leads_on : (m : ReplayState) (answer : Turn) → TurnOf i now (Ok answer) m → LeadsTo turns s (given + 1) m
-    leads_on m answer turn = record {
-      runs = λ t is. leads.runs t (subst (λ (l : List ℕ). Runs l now t) (sym (left_at turns given i at)) (runs_behind i (drop (given + 1) turns) now m t answer on turn is));
-      dries = λ t is. leads.dries t (subst (λ (l : List ℕ). RunsDry l now t) (sym (left_at turns given i at)) (dries_behind i (drop (given + 1) turns) now m t answer on turn is));
-    }
+    -- it goes on with one turn more
+    pub leads_on : (m : ReplayState) (answer : Turn) → TurnOf i now (Ok answer) m → IsReplay m → RunsKept (take (given + 1) turns) s m
+    leads_on m answer turn replay = subst (λ (l : List ℕ). RunsKept l s m) (sym (one_more turns given i at)) (kept_run_goes_on (take given turns) i s now m answer ran on turn replay)
 
-    -- and at want of memory the run ends
-    pub ends_dry : (t : ReplayState) → ((error : AllocError) × TurnOf i now (Err error) t) ⊎ (t ≡ now) → RunsDry turns s t
-    ends_dry t refused = leads.dries t (subst (λ (l : List ℕ). RunsDry l now t) (sym (left_at turns given i at)) (dries_here i (drop (given + 1) turns) now t on refused))
+    -- and ends at want of memory
+    pub ends_dry : (t : ReplayState) → ((error : AllocError) × TurnOf i now (Err error) t) ⊎ (t ≡ now) → DriesKept turns s t
+    ends_dry t refused = record {
+      front = take given turns;
+      thread = i;
+      back = drop (suc given) turns;
+      turns_are = sym (take-append-drop given turns) ∙ ap (λ (l : List ℕ). take given turns ++ l) (next_of turns given i at);
+      last = now;
+      runs = ran;
+      not_over = on;
+      refused = refused;
+    }

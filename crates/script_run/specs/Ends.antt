@@ -6,7 +6,7 @@ use Rattle.seq_object.specs.Sizes.{sizes_of, room_count}
 use Rattle.line_memory.specs.Line.{BankState}
 use Rattle.life_model.specs.declared.life.Outcome.{Outcome}
 use Rattle.life_model.specs.declared.life.Outcome.TheVariants.{Finished, Stalled, Cut, Starved}
-use Rattle.life_model.specs.Told.{ReportState}
+use Rattle.life_model.specs.Told.{ReportState, is_resume}
 use Rattle.restart_point.specs.declared.thread_end.ThreadEnd.{ThreadEnd}
 use Rattle.restart_point.specs.declared.thread_end.ThreadEnd.TheVariants.{Ready, Waits, Ended}
 use Rattle.rooms.specs.declared.room.Room.{Room}
@@ -18,6 +18,7 @@ use Rattle.plain_yard.specs.Opening.{commands_in}
 use Rattle.plain_yard.specs.Shown.{IsLawfulYard}
 use Rattle.replay_model.specs.Replays.{ReplayState, AllTurnOff}
 use Rattle.replay_model.specs.Endings.{IsReportOfYard}
+use Rattle.script_run.specs.declared.ending.Began.{Began}
 use Rattle.script_run.specs.declared.ending.Space.{Space}
 
 -- empty lists with room for each command of these scripts, and for the number of each room
@@ -26,6 +27,11 @@ pub record HasSpace (settings : Settings) (scripts : Scripts) (s : Space) : Type
   pub entries : commands_in scripts ≤ vec_capacity s.entries
   pub no_numbers : s.numbers.items ≡ []
   pub numbers : room_count (sizes_of settings) ≤ vec_capacity s.numbers
+
+-- a report that begins so is of a life with this beginning
+pub record TellsBeginning (r : Began) (b : Beginning) : Type 0 where
+  pub resumed : r.resumed ≡ is_resume b.life
+  pub epoch : r.epoch ≡ b.epoch
 
 -- whether a thread of this end waits for an item
 abbrev pub is_waiting : ThreadEnd → Bool
@@ -63,5 +69,7 @@ pub record Ends (dry : Bool) (s : ReplayState) (r : ReportState) (memory : List 
   pub off : AllTurnOff 0 (length s.workers) s last
   pub lawful : IsLawfulYard last.yard
   pub beginning : last.yard.beginning ≡ s.yard.beginning
+  pub history : last.yard.told.history ≡ s.yard.told.history
+  pub checkpoints : last.yard.told.checkpoints ≡ s.yard.told.checkpoints
   pub report : IsReportOfYard last.yard r memory
   pub want : TellsWant dry r.outcome

@@ -4,9 +4,7 @@ ghost use Rattle.std.specs.Prelude.{◌≡◌, ◌≤◌, ◌<◌, ◌^◌, [], 
 ghost use Rattle.std.specs.List.{list_any};
 ghost use Rattle.seq_object.specs.Sizes.{IsValid, room_count};
 ghost use Rattle.line_memory.specs.Line.{all_write_backs};
-ghost use Rattle.life_model.specs.declared.life.Life.TheVariants.{Start};
-ghost use Rattle.life_model.specs.Life.{reported};
-ghost use Rattle.yard_model.specs.Beginnings.{opening_of, sizes_at, marks_of};
+ghost use Rattle.yard_model.specs.Beginnings.{sizes_at};
 ghost use Rattle.yard_model.specs.Lives.{IsMemoryOf, NamesDead};
 ghost use Rattle.plain_yard.specs.Opening.{commands_in};
 ghost use Rattle.plain_yard.specs.Shown.{NoneHolds, IsLawfulYard};
@@ -15,7 +13,8 @@ ghost use Rattle.replay_model.specs.Replays.{AllTurnOff};
 ghost use Rattle.replay_model.specs.Kept.{IsReplay};
 ghost use Rattle.replay_model.specs.Endings.{IsReportOfYard};
 ghost use Rattle.script_run.specs.Runs.{HaveDone};
-ghost use Rattle.script_run.specs.Ends.{HasSpace, waits_in, TellsWaiting, TellsWant, outcome_of, Ends};
+ghost use Rattle.script_run.specs.Ends.{HasSpace, TellsBeginning, waits_in, TellsWaiting, TellsWant, outcome_of, Ends};
+ghost use Rattle.script_run.specs.Steps.{AreMarksOf};
 
 use crate::replay::Replay;
 use crate::run::Run;
@@ -23,7 +22,6 @@ use life_model::{Mark, Outcome};
 use line_memory::Memory;
 use plain_yard::PlainYard;
 use restart_point::ThreadEnd;
-use room_model::FIRST_EPOCH;
 use room_yard::{World, WorldParts};
 use rooms::Room;
 use script_text::Report;
@@ -36,6 +34,13 @@ use std::alloc::{AllocError, Global};
 pub(crate) struct Space {
     pub(crate) entries: Vec<Entry>,
     pub(crate) numbers: Vec<u32>,
+}
+
+/// How a life began, as its report tells it.
+#[derive(Clone, Copy)]
+pub(crate) struct Began {
+    pub(crate) resumed: bool,
+    pub(crate) epoch: u32,
 }
 
 /// What an ended replay leaves.
@@ -89,18 +94,17 @@ fn commands_of(scripts: &[Vec<Command>]) -> usize
 
 impl Run {
     /// Ends a run: each thread gives its room up, and the report is made. It takes no memory.
-    pub(crate) fn end(self, space: Space) -> Ended
+    pub(crate) fn end(self, began: Began, space: Space) -> Ended
         requires replay { IsReplay self.replay }
         requires few { HaveDone 10000016 self.replay }
-        requires start { self.replay.yard.beginning.life ≡ Start }
-        requires epoch { self.replay.yard.beginning.epoch ≡ 1 }
-        requires marks { self.marks.items ≡ reported (opening_of self.replay.yard.beginning) (marks_of self.replay.yard.beginning self.replay.yard.told.checkpoints) }
+        requires began { TellsBeginning began self.replay.yard.beginning }
+        requires marks { AreMarksOf self.marks.items self.replay }
         requires space { HasSpace self.replay.yard.beginning.settings self.replay.yard.beginning.scripts space }
         ensures ends { Ends self.dry self.replay (report_of result.report) result.memory }
         ensures flushed { result.report.flushed ≡ all_write_backs result.memory }
     {
         let Run { replay, marks, dry } = self;
-        replay.turn_all_off().report(marks, dry, space)
+        replay.turn_all_off().report(began, marks, dry, space)
     }
 }
 
@@ -132,14 +136,12 @@ impl Replay {
         replay
     }
 
-    /// The report of a replay of a start, in which no thread holds a room, with the marks of its run; `dry` says that memory ran out. It takes
-    /// no memory.
-    fn report(self, marks: Vec<Mark>, dry: bool, space: Space) -> Ended
+    /// The report of a replay in which no thread holds a room, with the marks of its run; `dry` says that memory ran out. It takes no memory.
+    fn report(self, began: Began, marks: Vec<Mark>, dry: bool, space: Space) -> Ended
         requires replay { IsReplay self }
         requires none { NoneHolds self.yard }
-        requires start { self.yard.beginning.life ≡ Start }
-        requires epoch { self.yard.beginning.epoch ≡ 1 }
-        requires marks { marks.items ≡ reported (opening_of self.yard.beginning) (marks_of self.yard.beginning self.yard.told.checkpoints) }
+        requires began { TellsBeginning began self.yard.beginning }
+        requires marks { AreMarksOf marks.items self }
         requires space { HasSpace self.yard.beginning.settings self.yard.beginning.scripts space }
         ensures report { IsReportOfYard self.yard (report_of result.report) result.memory }
         ensures want { TellsWant dry result.report.outcome }
@@ -156,8 +158,8 @@ impl Replay {
         } = take_apart(yard, numbers);
         Ended {
             report: Report {
-                resumed: false,
-                began: FIRST_EPOCH,
+                resumed: began.resumed,
+                began: began.epoch,
                 entries,
                 marks,
                 held,

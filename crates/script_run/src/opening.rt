@@ -1,6 +1,6 @@
 //! The replay of a start, before its first turn.
 
-ghost use Rattle.std.specs.Prelude.{◌≡◌, ◌≤◌, ◌^◌, map, length, IfOk};
+ghost use Rattle.std.specs.Prelude.{◌≡◌, ◌≤◌, ◌<◌, ◌^◌, ℕ, map, length, replicate, slice_index, IfOk};
 ghost use Rattle.std.specs.List.{All};
 ghost use Rattle.yard_model.specs.declared.view.Beginning.{Beginning};
 ghost use Rattle.yard_model.specs.Beginnings.{opening_of};
@@ -9,8 +9,10 @@ ghost use Rattle.room_model.specs.Formatted.{formatted_memory};
 ghost use Rattle.room_yard.specs.World.{CanOpen, Begins, Opens, beginning_with};
 ghost use Rattle.plain_yard.specs.Shown.{opening_told};
 ghost use Rattle.replay_model.specs.Kept.{IsReplay};
+ghost use Rattle.replay_progress.specs.Shown.{GoesOnRight};
 ghost use Rattle.script_run.specs.Runs.{HaveDone};
-ghost use Rattle.script_run.specs.Starts.{IsStartOf, AreFirstWorkers};
+ghost use Rattle.life_model.specs.Life.{Opening, script_of};
+ghost use Rattle.script_run.specs.Starts.{IsStartOf, IsAtPlaces, AreFirstWorkers};
 
 use crate::replay::Replay;
 use fresh_world::fresh;
@@ -36,10 +38,12 @@ impl Replay {
         requires formatted { memory ≡ formatted_memory (sizes_of settings) }
         ensures start { IfOk result (λ replay. IsStartOf settings (map (λ s. s.items) scripts.now) replay) }
         ensures replay { IfOk result (λ replay. IsReplay replay) }
+        ensures right { IfOk result (λ replay. GoesOnRight replay) }
         ensures none_done { IfOk result (λ replay. HaveDone 0 replay) }
     {
         let lengths = lengths_of(alloc, scripts)?;
-        let workers = first_workers(alloc, settings, scripts)?;
+        let places = first_places(alloc, settings.threads)?;
+        let workers = first_workers(alloc, settings, scripts, places.as_slice())?;
         let world = fresh(alloc, memory, settings, &lengths)?;
         let yard = first_yard(alloc, world, settings, scripts)?;
         Ok(Replay { yard, workers })
@@ -47,7 +51,7 @@ impl Replay {
 }
 
 /// How many commands each script has.
-fn lengths_of(alloc: Global, scripts: &[Vec<Command>]) -> Result<Vec<u32>, AllocError>
+pub(crate) fn lengths_of(alloc: Global, scripts: &[Vec<Command>]) -> Result<Vec<u32>, AllocError>
     requires short { All (λ s. length s.items ≤ 4096) scripts.now }
     ensures { IfOk result (λ lengths. lengths.items ≡ map (λ s. length s.items) scripts.now) }
 {
@@ -58,20 +62,31 @@ fn lengths_of(alloc: Global, scripts: &[Vec<Command>]) -> Result<Vec<u32>, Alloc
     Ok(lengths)
 }
 
-/// A worker for each thread, at the first place of its script.
-fn first_workers(
+/// The first place of so many scripts.
+fn first_places(alloc: Global, threads: u32) -> Result<Vec<u32>, AllocError>
+    ensures { IfOk result (λ places. places.items ≡ replicate threads 0) }
+{
+    vec![in alloc; 0; threads as usize]
+}
+
+/// A worker for each thread, at its place of its script.
+pub(crate) fn first_workers(
     alloc: Global,
     settings: Settings,
     scripts: &[Vec<Command>],
+    places: &[u32],
 ) -> Result<Vec<Worker>, AllocError>
     requires valid { IsValid settings }
     requires scripts { length scripts.now ≡ settings.threads }
+    requires places { length places.now ≡ settings.threads }
     requires short { All (λ s. length s.items ≤ 4096) scripts.now }
-    ensures { IfOk result (λ workers. AreFirstWorkers settings (map (λ s. s.items) scripts.now) settings.threads workers.items) }
+    requires within { (i : ℕ) → i < settings.threads → slice_index places.now i ≤ length (script_of (map (λ s. s.items) scripts.now) i) }
+    ensures { IfOk result (λ workers. (o : Opening) → IsAtPlaces settings (map (λ s. s.items) scripts.now) places.now o → AreFirstWorkers o settings.threads workers.items) }
 {
     let mut workers = Vec::new(alloc);
     for thread in 0..settings.threads {
-        workers.push(Worker::new(alloc, thread, &scripts[thread as usize], 0, settings)?)?;
+        let place = places[thread as usize];
+        workers.push(Worker::new(alloc, thread, &scripts[thread as usize], place, settings)?)?;
     }
     Ok(workers)
 }

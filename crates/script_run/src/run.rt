@@ -1,20 +1,16 @@
 //! The run of a replay under a schedule.
 
-ghost use Rattle.std.specs.Prelude.{◌≡◌, ◌<◌, ◌++◌, [], length, option_to_list, slice_get, vec_capacity};
-ghost use Rattle.life_model.specs.declared.life.Life.TheVariants.{Start};
-ghost use Rattle.life_model.specs.Life.{reported};
-ghost use Rattle.yard_model.specs.Beginnings.{opening_of, marks_of};
+ghost use Rattle.std.specs.Prelude.{◌≡◌, ◌<◌, ◌++◌, drop, length, option_to_list, slice_get, vec_capacity};
 ghost use Rattle.script_text.specs.Program.{turns_of};
 ghost use Rattle.script_text.specs.Text.{AreTurns};
 ghost use Rattle.script_text.specs.Schedules.{schedule_of};
 ghost use Rattle.replay_model.specs.Kept.{IsReplay};
 ghost use Rattle.script_run.specs.Runs.{HaveDone, RunsOrDries};
-ghost use Rattle.script_run.specs.Steps.{marks_by, AreMarksOf, HasTurnOrDries, StaysReplay};
+ghost use Rattle.script_run.specs.Steps.{marks_by, AreMarksOf, IsOrderIn, HasTurnOrDries, StaysReplay};
 
 use crate::replay::{Replay, Turned};
 use life_model::Mark;
 use script_text::Mode;
-use std::alloc::Global;
 use turn_order::TurnOrder;
 
 /// Where a run ended.
@@ -28,26 +24,27 @@ pub(crate) struct Run {
 }
 
 impl Replay {
-    /// Makes the turns of a mode, each of the thread that it names, until the life is over, the turns are spent, or memory runs out. The marks
-    /// are kept as they are acknowledged; room for one is made before each turn.
-    pub(crate) fn run(self, alloc: Global, threads: u32, mode: &Mode) -> Run
+    /// Makes the turns of a mode that this order has left, each of the thread that it names, until the life is over, the turns are spent, or
+    /// memory runs out. `marks` are those before the first of them. More are kept as they are acknowledged; room for one is made before each
+    /// turn.
+    pub(crate) fn run(self, threads: u32, mode: &Mode, order: TurnOrder, marks: Vec<Mark>) -> Run
         requires replay { IsReplay self }
         requires none_done { HaveDone 0 self }
         requires threads { length self.workers ≡ threads }
         requires turns { AreTurns threads (turns_of mode.now) }
-        requires start { self.yard.beginning.life ≡ Start }
-        requires none { self.yard.told.checkpoints ≡ [] }
-        ensures runs { RunsOrDries result.dry (schedule_of threads (turns_of mode.now)) self result.replay }
+        requires order { IsOrderIn threads (turns_of mode.now) order }
+        requires marks { AreMarksOf marks.items self }
+        ensures runs { RunsOrDries result.dry (drop order.given (schedule_of threads (turns_of mode.now))) self result.replay }
         ensures replay { IsReplay result.replay }
         ensures few { HaveDone 10000016 result.replay }
         ensures beginning { result.replay.yard.beginning ≡ self.yard.beginning }
         ensures number { length result.replay.workers ≡ threads }
-        ensures marks { result.marks.items ≡ reported (opening_of self.yard.beginning) (marks_of self.yard.beginning result.replay.yard.told.checkpoints) }
+        ensures marks { AreMarksOf result.marks.items result.replay }
     {
-        let mut order = TurnOrder::of(threads, mode);
+        let mut order = order;
         let mut run = Run {
             replay: self,
-            marks: Vec::new(alloc),
+            marks,
             dry: false,
         };
         while !run.dry && !run.replay.is_over() {
@@ -126,7 +123,7 @@ fn made_turn(replay: Replay, marks: Vec<Mark>, thread: u32) -> Run
 }
 
 /// The marks with one more, if there is one.
-fn with_mark(marks: Vec<Mark>, mark: Option<Mark>) -> Vec<Mark>
+pub(crate) fn with_mark(marks: Vec<Mark>, mark: Option<Mark>) -> Vec<Mark>
     requires room { length marks.items < vec_capacity marks }
     ensures { result.items ≡ marks.items ++ option_to_list mark }
 {

@@ -6,10 +6,10 @@ ghost use Rattle.script_text.specs.ReportText.{report_of, AreMarksRising};
 ghost use Rattle.script_text.specs.Schedules.{AreScheduled};
 ghost use Rattle.script_text.specs.Text.{HasText};
 
-use crate::replay_start;
+use crate::replay_job;
 use formatting::format;
 use image_check::{Recovered, check_image};
-use life_model::Outcome;
+use life_model::{Life, Outcome};
 use power_cut::{cut, image_bytes, read_image};
 use script_text::{Mode, Report, Script, read_script, report_text};
 use seq_object::{Pair, Settings};
@@ -35,7 +35,7 @@ fn replayed(alloc: Global, text: &str) -> Result<Report, AllocError>
 {
     let script = script_in(alloc, text)?;
     let mut memory = format(alloc, &script.settings)?;
-    replay_start(alloc, &script, &mut memory)
+    replay_job(alloc, &script, Life::Start, &mut memory)
 }
 
 /// The same as a text.
@@ -109,7 +109,7 @@ fn recovered(rt: &impl Abort, alloc: Global, turns: u32, keep: &Choice) -> Recov
     let text = one_thread(alloc, turns, "put 5 7\n").expect(rt, "memory");
     let script = script_in(alloc, &text).expect(rt, "a script");
     let mut memory = format(alloc, &script.settings).expect(rt, "memory");
-    let _report = replay_start(alloc, &script, &mut memory).expect(rt, "memory");
+    let _report = replay_job(alloc, &script, Life::Start, &mut memory).expect(rt, "memory");
     let left = cut(alloc, &memory, &SETTINGS, keep).expect(rt, "memory");
     let bytes = image_bytes(alloc, &left).expect(rt, "memory");
     let image = read_image(alloc, bytes.as_slice()).expect(rt, "an image");

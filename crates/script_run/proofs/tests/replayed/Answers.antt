@@ -2,4 +2,4 @@ use Rattle.script_run.proofs.Rising.{rising_told}
 use Rattle.script_run.proofs.tests.replayed.Goals as goal
 
 pub returns : goal.returns
-returns c = record { rising = rising_told _ _ _ _ c.replay_start.result c.replay_start.ensures.told }
+returns c = record { rising = rising_told _ _ _ _ c.replay_job.result c.replay_job.ensures.told }

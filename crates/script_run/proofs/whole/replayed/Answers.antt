@@ -1,69 +1,27 @@
-use Rattle.std.proofs.Common.{◌≡◌, ◌<◌, ◌≤◌, ◌^◌, List, length, map, sym, subst}
-use Rattle.std.specs.Global.{Vec}
-use Rattle.std.specs.List.{All}
-use Rattle.seq_object.specs.declared.command.Command.{Command}
-use Rattle.script_text.specs.declared.script.Script.{Script}
-use Rattle.script_text.specs.Program.{program_of, turns_of}
+use Rattle.std.proofs.Common.{◌≡◌, List, [], IfOk, Result, Ok, Err, sym, subst}
+use Rattle.std.specs.declared.alloc.AllocError.{AllocError}
+use Rattle.seq_object.specs.declared.settings.Settings.{Settings}
+use Rattle.seq_object.specs.History.{Scripts}
+use Rattle.room_model.specs.Image.{ImageRooms, image_of, nothing_kept}
+use Rattle.life_model.specs.declared.life.Life.{Life}
+use Rattle.life_model.specs.Life.{Opening, start_of}
+use Rattle.life_model.specs.Told.{TellsOf}
+use Rattle.script_text.specs.Program.{program_of}
 use Rattle.script_text.specs.ReportText.{report_of}
-use Rattle.script_text.specs.Schedules.{schedule_of}
-use Rattle.plain_yard.specs.Opening.{commands_in}
-use Rattle.replay_model.specs.Replays.{ReplayState}
-use Rattle.script_run.specs.declared.ending.Space.{Space}
-use Rattle.script_run.specs.Ends.{HasSpace}
-use Rattle.script_run.specs.Starts.{IsStartOf}
-use Rattle.script_run.proofs.Sections.{are_short, commands_few}
-use Rattle.script_run.proofs.Starting.{as_many, no_checkpoint, life_is, epoch_is, has_space, marks_are, is_told, is_replay}
+use Rattle.script_run.specs.declared.ending.Ended.{Ended}
+use Rattle.script_run.specs.Jobs.{OpensOver}
+use Rattle.script_run.proofs.StartsTold.{told_of_start}
 use Rattle.script_run.proofs.whole.replayed.Goals as goal
 
--- what is so of the sections as a slice is so of the script
-module _ (s : Script) (sections : List (Vec Command)) (are : sections ≡ s.threads.items) where
-  starts : (replay : ReplayState) → IsStartOf s.settings (map (λ (x : Vec Command). x.items) sections) replay → IsStartOf s.settings (program_of s).threads replay
-  starts replay is = subst (λ (xs : List (Vec Command)). IsStartOf s.settings (map (λ (x : Vec Command). x.items) xs) replay) are is
+-- what is told of a start is told of each life that opens as it does
+told_over : (settings : Settings) (scripts : Scripts) (image : ImageRooms) (r : Result Ended AllocError) → IfOk r (λ ended. TellsOf (start_of settings scripts) [] 0 (report_of ended.report) ended.memory)
+    → IfOk r (λ ended. (o : Opening) → o ≡ start_of settings scripts → TellsOf o image 0 (report_of ended.report) ended.memory)
+told_over settings scripts image (Ok ended) told =
+    λ o is. subst (λ (a : Opening). TellsOf a image 0 (report_of ended.report) ended.memory) (sym is) (told_of_start settings scripts [] image 0 (report_of ended.report) ended.memory told)
+told_over settings scripts image (Err error) told = tt
 
-  spares : (space : Space) → HasSpace s.settings (map (λ (x : Vec Command). x.items) sections) space → HasSpace s.settings (program_of s).threads space
-  spares space has = subst (λ (xs : List (Vec Command)). HasSpace s.settings (map (λ (x : Vec Command). x.items) xs) space) are has
-
-pub of-requires-clause-few : goal.of-requires-clause-few
-of-requires-clause-few c = subst (λ (xs : List (Vec Command)). commands_in (map (λ s. s.items) xs) < 2 ^ 32) (sym c.as_slice-scripts.ensures.value) (commands_few (program_of c.args.script.now) c.requires.script)
-
-pub start-requires-clause-short : goal.start-requires-clause-short
-start-requires-clause-short c =
-    subst (λ (xs : List (Vec Command)). All (λ (s : Vec Command). length s.items ≤ 4096) xs) (sym c.as_slice-scripts.ensures.value)
-    (are_short c.args.script.now.threads.items c.requires.script.sections)
-
--- THE RUN is of a start of the script.
-pub run-run-requires-clause-threads : goal.run-run-requires-clause-threads
-run-run-requires-clause-threads c = as_many c.args.script.now.settings _ c.in_ok-replay.replay c.in_ok-replay.ensures.start
-
-pub run-run-requires-clause-start : goal.run-run-requires-clause-start
-run-run-requires-clause-start c = c.in_ok-replay.ensures.start.fresh.start
-
-pub run-run-requires-clause-none : goal.run-run-requires-clause-none
-run-run-requires-clause-none c = no_checkpoint c.args.script.now.settings _ c.in_ok-replay.replay c.in_ok-replay.ensures.start
-
--- THE END is of a run from it.
-pub end-requires-clause-start : goal.end-requires-clause-start
-end-requires-clause-start c = life_is c.args.script.now.settings _ c.in_ok-replay.replay c.in_ok-replay.ensures.start c.run-run.result.replay c.run-run.ensures.beginning
-
-pub end-requires-clause-epoch : goal.end-requires-clause-epoch
-end-requires-clause-epoch c = epoch_is c.args.script.now.settings _ c.in_ok-replay.replay c.in_ok-replay.ensures.start c.run-run.result.replay c.run-run.ensures.beginning
-
-pub end-requires-clause-marks : goal.end-requires-clause-marks
-end-requires-clause-marks c =
-    marks_are c.args.script.now.settings _ c.in_ok-replay.replay c.in_ok-replay.ensures.start c.run-run.result.replay c.run-run.ensures.beginning c.run-run.result.marks.items c.run-run.ensures.marks
-
-pub end-requires-clause-space : goal.end-requires-clause-space
-end-requires-clause-space c =
-    has_space c.args.script.now.settings _ c.in_ok-replay.replay c.in_ok-replay.ensures.start c.run-run.result.replay c.run-run.ensures.beginning c.in_ok-space.space c.in_ok-space.ensures
-
--- THE REPORT is of this replay.
-pub returns : goal.returns
-returns c =
+pub returns-in-Start-clause-told : goal.returns-in-Start-clause-told
+returns-in-Start-clause-told c =
     let s = c.args.script.now in
-    let start = starts s c.as_slice-scripts.result.now c.as_slice-scripts.ensures.value c.in_ok-replay.replay c.in_ok-replay.ensures.start in
-    record {
-      told = is_told s.settings (program_of s).threads c.in_ok-replay.replay start c.run-run.result.replay c.run-run.ensures.beginning c.run-run.result.dry c.run-run.ensures.number
-          (report_of c.end.result.report) c.end.result.memory c.end.ensures.ends c.end.ensures.flushed;
-      run = is_replay s.settings (program_of s).threads c.in_ok-replay.replay start c.run-run.result.replay c.run-run.ensures.beginning c.run-run.result.dry c.run-run.ensures.number
-          (report_of c.end.result.report) c.end.result.memory c.end.ensures.ends (schedule_of s.settings.threads (turns_of s.mode)) c.run-run.ensures.runs;
-    }
+    subst (λ (life : Life). IfOk c.started.result (λ ended. (o : Opening) → OpensOver life s.settings (program_of s).threads c.args.memory o → TellsOf o (image_of c.args.memory nothing_kept) 0 (report_of ended.report) ended.memory)) (sym c.in-Start.is)
+    (told_over s.settings (program_of s).threads (image_of c.args.memory nothing_kept) c.started.result c.started.ensures.told)

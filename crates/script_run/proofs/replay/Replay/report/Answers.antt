@@ -23,5 +23,5 @@ returns-clause-report c =
     } in
     let yard : c.self.inside.yard ≡ c.args.self.yard = ap (λ (s : ReplayState). s.yard) c.self.view_is in
     is_report c.args.self.yard _ c.args.dry c.is_over-over.result c.take_apart-memory.result.waits c.take_apart-memory.result.memory c.requires.replay.lawful
-    (record { start = c.requires.start; epoch = c.requires.epoch; resumed = refl; began = refl; marks = c.requires.marks; over = c.is_over-over.ensures; outcome = c.outcome.ensures })
+    (record { resumed = c.requires.began.resumed; began = c.requires.began.epoch; marks = c.requires.marks; over = c.is_over-over.ensures; outcome = c.outcome.ensures })
     (subst (λ (y : ShownYard). IsReadOff y c.drawn-entries.result.items c.take_apart-memory.result.held.items c.take_apart-memory.result.waits c.take_apart-memory.result.memory) yard here)

@@ -1,16 +1,13 @@
-use Rattle.std.proofs.Common.{◌≡◌, List, sym, ap, ◌∙◌, subst}
+use Rattle.std.proofs.Common.{◌≡◌, List, sym, subst}
 use Rattle.life_model.specs.Life.{reported}
 use Rattle.yard_model.specs.declared.view.Beginning.{Beginning}
 use Rattle.yard_model.specs.declared.view.Checkpoint.{Checkpoint}
 use Rattle.yard_model.specs.Beginnings.{opening_of, marks_of}
-use Rattle.script_run.specs.Ends.{HasSpace}
+use Rattle.script_run.specs.Ends.{HasSpace, TellsBeginning}
 use Rattle.script_run.proofs.run.Run.end.Goals as goal
 
-pub report-requires-clause-start : goal.report-requires-clause-start
-report-requires-clause-start c = ap (λ (b : Beginning). b.life) c.turn_all_off.ensures.beginning ∙ c.requires.start
-
-pub report-requires-clause-epoch : goal.report-requires-clause-epoch
-report-requires-clause-epoch c = ap (λ (b : Beginning). b.epoch) c.turn_all_off.ensures.beginning ∙ c.requires.epoch
+pub report-requires-clause-began : goal.report-requires-clause-began
+report-requires-clause-began c = subst (λ (b : Beginning). TellsBeginning c.args.began b) (sym c.turn_all_off.ensures.beginning) c.requires.began
 
 pub report-requires-clause-marks : goal.report-requires-clause-marks
 report-requires-clause-marks c =
@@ -27,6 +24,8 @@ returns-clause-ends c = record {
   off = c.turn_all_off.ensures.off;
   lawful = c.turn_all_off.ensures.replay.lawful;
   beginning = c.turn_all_off.ensures.beginning;
+  history = c.turn_all_off.ensures.history;
+  checkpoints = c.turn_all_off.ensures.checkpoints;
   report = c.report.ensures.report;
   want = c.report.ensures.want;
 }
