@@ -93,7 +93,7 @@ ran() {
 
 grep -qF "\"$usage\"" "$top/crates/respct/src/status.rt" || fail 'the program has another text for words that it refuses'
 for words in '' help --help Start --image --unproved 'start extra' 'start --image' 'start --image=' 'start --image -x' 'start --image=-x' \
-    'start --image a b' resume 'check --image' 'drill 7' '--unproved resume'; do
+    'start --image a b' 'resume --image' 'check --image' 'drill 7' '--unproved drill'; do
     # shellcheck disable=SC2086
     status=$(run $words)
     [ "$status" = 1 ] && [ "$(cat err)" = "$usage" ] && [ ! -s out ] && [ ! -s calls ] || fail "the words '$words' are not refused at once"

@@ -12,28 +12,32 @@ room=$(mktemp -d)
 trap 'find "$room" -delete' EXIT
 cd "$room"
 
-# The report that README.md shows at this place among its reports.
+# The text that README.md shows at this place among those that begin with this line.
 shown() {
-    awk -v wanted="$1" '
+    awk -v head="$1" -v wanted="$2" '
         /^```/ { inside = !inside; first = inside; if (!inside) writes = 0; next }
-        first { first = 0; if ($0 == "respct-report 1") writes = ++found == wanted }
+        first { first = 0; if ($0 == head) writes = ++found == wanted }
         writes { print }
     ' "$top/README.md"
 }
 
-# The run of this script ends with this status, and writes what is in the file `wanted`.
-compare() {
+# A run with this word over this script ends with this status, and writes what is in the file `wanted`.
+compare_as() {
     local status=0
-    "$command" "${@:3}" start --image compared.image <"$1" >written || status=$?
-    if [ "$status" != "$2" ] || [ ! -s wanted ] || ! diff wanted written >&2; then
-        echo "reports: ${1#"$top"/} ends with $status in place of $2, or writes another report than is shown" >&2
+    "$command" "${@:4}" "$1" --image compared.image <"$2" >written || status=$?
+    if [ "$status" != "$3" ] || [ ! -s wanted ] || ! diff wanted written >&2; then
+        echo "reports: $1 over ${2#"$top"/} ends with $status in place of $3, or writes another text than is shown" >&2
         exit 1
     fi
 }
 
-shown 1 >wanted
+compare() {
+    compare_as start "$@"
+}
+
+shown "respct-report 1" 1 >wanted
 compare "$top/examples/first.respct" 0 "$@"
-shown 2 >wanted
+shown "respct-report 1" 2 >wanted
 compare "$top/examples/cut.respct" 4 "$@"
 printf 'respct-report 1\nlife start\nbegan 1\nentry 0 0 put 1 10 = new\nentry 1 0 put 1 20 = old 10\nflushed 0\nend cut\n' >wanted
 compare "$top/examples/two_threads.respct" 4 "$@"
@@ -41,4 +45,16 @@ printf 'respct-report 1\nlife start\nbegan 1\nentry 1 0 enq 9 = done\nsaved 2\ne
 compare "$top/examples/take.respct" 0 "$@"
 cat "$top/crates/respct/stdout" >wanted
 compare "$top/crates/respct/stdin" 0 "$@"
+
+# The walk over two lives. A run that is not proved leaves no image, and so cannot go on from one.
+shown "respct-report 1" 2 >wanted
+compare "$top/examples/interrupted.respct" 4 "$@"
+if [ -e compared.image ]; then
+    shown "respct-state 1" 2 >wanted
+    compare_as check /dev/null 0 "$@"
+    shown "respct-report 1" 3 >wanted
+    compare_as resume "$top/examples/resumed.respct" 0 "$@"
+    shown "respct-state 1" 3 >wanted
+    compare_as check /dev/null 0 "$@"
+fi
 echo "reports: as README.md shows them, by $command $*"

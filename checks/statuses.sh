@@ -4,7 +4,7 @@
 #
 #     checks/statuses.sh crates/respct/out/respct
 #
-# 11 is not tried, since it needs memory that is refused; 6 does not come yet. Each case holds for root too, who may open any
+# 11 is not tried, since it needs memory that is refused. Each case holds for root too, who may open any
 # file: so the source that cannot be read is closed, or a folder, and the place for the image is in a folder that is not there.
 set -eu
 top=$(CDPATH='' cd -- "$(dirname -- "$0")/.." && pwd)
@@ -96,6 +96,8 @@ run start --image left.image <too_long
 ended 'one byte more than a script may have' 12 '' /dev/null
 
 printf 'respct-state 1\nepoch 2\nthread 0 1\nmap 5 7\nend\n' >state
+printf 'respct-report 1\nlife resume\nbegan 2\nsaved 3\nflushed 1\nend finished\n' >idle_report
+printf 'respct-report 1\nlife resume\nbegan 2\nflushed 0\nend cut\n' >unmoved_report
 run start --image left.image <"$top/crates/respct/stdin"
 ended 'one put' 0 "$image" "$top/crates/respct/stdout"
 cp left.image kept
@@ -107,6 +109,39 @@ run check --image no_script
 ended 'a check of a file that is no image' 5 '' /dev/null short
 run check --image nothing
 ended 'a check of a name with nothing under it' 10 '' /dev/null
+
+# A resume over this script, from a copy of what one put left, or of another file. The copy is the image that is left.
+resume() {
+    keeps=${2-kept}
+    status=0
+    rm -f -- *.image
+    cp "$keeps" left.image
+    : >written
+    timeout 20 "$program" resume --image left.image <"$1" >"${sink-written}" 2>said || status=$?
+}
+
+put=$top/crates/respct/stdin
+resume "$put"
+ended 'a resume with nothing left to do' 0 "$image" idle_report
+sed 's/^turns .*/turns rr 0/' "$put" >no_turns
+resume no_turns
+ended 'a resume without a turn' 4 "$image" unmoved_report
+sink=/dev/full resume "$put"
+ended 'a resume with standard output full' 8 "$image" /dev/null
+resume no_script
+ended 'a resume without a script' 2 "$image" /dev/null 'line 1: head'
+resume "$put" no_script
+ended 'a resume from a file that is no image' 5 "$(wc -c <no_script)" /dev/null short
+sed 's/^lines .*/lines 32/' "$put" >other_lines
+resume other_lines
+ended 'a resume with other lines' 6 "$image" /dev/null 'lines 16, 32'
+sed '/^put/d' "$put" >no_command
+resume no_command
+ended 'a resume behind the end of a script' 6 "$image" /dev/null 'position of thread 0 1, 0'
+run resume --image nothing <"$put"
+ended 'a resume from a name with nothing under it' 10 '' /dev/null
+run resume --image <"$put"
+ended 'a resume without a name behind --image' 1 '' /dev/null
 
 [ "$is_right" = yes ]
 echo "statuses: as docs/formats.md has them, by $program"

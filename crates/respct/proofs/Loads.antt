@@ -1,5 +1,5 @@
 -- Loading an image: bytes and images are tied one to one, so bytes have one first fault, or are those of one lawful image.
-use Rattle.std.proofs.Common.{◌≡◌, ℕ, List, Option, Some, Result, Ok, Err, inl, inr, refl, sym, ap, subst, ◌∙◌}
+use Rattle.std.proofs.Common.{◌≡◌, ℕ, List, Option, Some, Result, Ok, Err, inl, inr, sym, ap, subst, ◌∙◌}
 use Rattle.room_model.specs.MapRoom.{live_layout}
 use Rattle.room_model.specs.Image.{ImageRooms as Rooms}
 use Rattle.room_laws.proofs.MapLaws.{layouts}
@@ -12,7 +12,7 @@ use Rattle.image_check.specs.ImageFaults.{image_fault}
 use Rattle.image_check.proofs.ImageChecks.{unlawful}
 use Rattle.seq_object.specs.declared.sizes.Sizes.{Sizes}
 use Rattle.respct.specs.declared.loading.Loaded.{Loaded}
-use Rattle.respct.specs.declared.loading.NotLoaded.TheVariants.{Fault, OutOfMemory}
+use Rattle.respct.specs.declared.loading.NotLoaded.TheVariants.{Fault}
 use Rattle.std.specs.FinMap.{get}
 use Rattle.byte_ports.specs.Images.{Named, HeldUnder}
 use Rattle.respct.specs.declared.loading.NotLoaded.{NotLoaded}
@@ -23,7 +23,7 @@ no_byte_fault : (bytes : List ℕ) (z : Sizes) (rooms : Rooms) (f : ImageFault) 
 no_byte_fault bytes z rooms f s is = cc (is, s.spelled, spellings_pass z rooms s.whole)
 
 -- bytes spell one image
-one_image : (bytes : List ℕ) (z y : Sizes) (rooms others : Rooms) → IsSpelling bytes z rooms → IsSpelling bytes y others → (z ≡ y) × (rooms ≡ others)
+pub one_image : (bytes : List ℕ) (z y : Sizes) (rooms others : Rooms) → IsSpelling bytes z rooms → IsSpelling bytes y others → (z ≡ y) × (rooms ≡ others)
 one_image bytes z y rooms others s t = one_spelling z y rooms others s.whole t.whole (sym s.spelled ∙ t.spelled)
 
 -- the first fault of the words of the image that bytes spell
@@ -62,10 +62,6 @@ image_decides bytes loaded is = record {
 -- to what bytes lead: a fault
 pub fault_decides : (bytes : List ℕ) (f : ImageFault) → AreRefusedBy bytes f → AreBytesDecided bytes (Err (Fault f))
 fault_decides bytes f refused = record { lawful = λ z rooms s. absurd (refused.other z rooms s); other = λ none. refused.first }
-
--- to what bytes lead: want of memory
-pub want_decides : (bytes : List ℕ) → AreBytesDecided bytes (Err OutOfMemory)
-want_decides bytes = record { lawful = λ z rooms s. refl; other = λ none. tt }
 
 -- to what a store leads that keeps these bytes under the name
 pub found_decides : (kept : Option Named) (named : Named) (name bytes : List ℕ) (result : Result Loaded NotLoaded) → HeldUnder kept name bytes → kept ≡ Some named → AreBytesDecided bytes result

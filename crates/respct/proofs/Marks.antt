@@ -1,5 +1,5 @@
 -- The marks of a replay are few: each turn releases at most one checkpoint, and so does each giving up of a room behind the run.
-use Rattle.std.proofs.Common.{◌≡◌, ℕ, zero, suc, ◌+◌, ◌≤◌, ◌⊎◌, inl, inr, Bool, true, false, List, [], ◌∷◌, ◌++◌, length, map, Option, Some, Result, Ok, Err, refl, sym, ap, ◌∙◌, subst, arith}
+use Rattle.std.proofs.Common.{◌≡◌, ℕ, zero, suc, ◌+◌, ◌≤◌, ◌⊎◌, inl, inr, Bool, true, false, List, [], ◌∷◌, ◌++◌, length, Option, Some, Result, Ok, Err, refl, ap, ◌∙◌, arith}
 use Rattle.std.specs.declared.alloc.AllocError.{AllocError}
 use Rattle.std.proofs.lemmas.List.{length-append, length-map}
 use Rattle.seq_object.specs.declared.settings.Settings.{Settings}
@@ -7,15 +7,13 @@ use Rattle.seq_object.specs.History.{Scripts}
 use Rattle.line_memory.specs.Line.{BankState}
 use Rattle.life_model.specs.declared.life.Life.{Life}
 use Rattle.life_model.specs.declared.life.Life.TheVariants.{Start, Resume}
-use Rattle.life_model.specs.declared.life.Mark.{Mark}
 use Rattle.life_model.specs.declared.life.Outcome.{Outcome}
 use Rattle.life_model.specs.declared.life.Outcome.TheVariants.{Finished, Stalled, Cut, Starved}
-use Rattle.life_model.specs.Life.{marks_from, reported}
+use Rattle.life_model.specs.Life.{marks_from}
 use Rattle.life_model.specs.Told.{ReportState}
-use Rattle.yard_model.specs.declared.view.Beginning.{Beginning}
 use Rattle.yard_model.specs.declared.view.Checkpoint.{Checkpoint}
 use Rattle.yard_model.specs.declared.view.View.{View}
-use Rattle.yard_model.specs.Beginnings.{opening_of, recovery_marks, lengths_of, marks_of}
+use Rattle.yard_model.specs.Beginnings.{recovery_marks, lengths_of, marks_of}
 use Rattle.room_yard.specs.Told.{Told, BothTell}
 use Rattle.plain_yard.specs.Shown.{view_at}
 use Rattle.worker_model.specs.declared.hand.Turn.{Turn}
@@ -107,7 +105,7 @@ all_off_few (suc n) i s t off =
     omega (arith, first, more)
 
 -- THE WHOLE REPLAY.
-replay_few : (outcome : Outcome) (turns : List ℕ) (s t : ReplayState) → Replays outcome turns s t
+pub replay_few : (outcome : Outcome) (turns : List ℕ) (s t : ReplayState) → Replays outcome turns s t
     → length (checkpoints_in t) ≤ length (checkpoints_in s) + length turns + length s.workers
 replay_few outcome turns s t replays =
     let ran = to_few outcome turns s replays.last replays.runs in
@@ -124,7 +122,7 @@ few_of_recovery Start = omega arith
 few_of_recovery Resume = omega arith
 
 -- a report of a yard has a mark for each checkpoint, and one more at most
-marks_few : (y : ReplayState) (r : ReportState) (memory : List BankState) → IsReportOfYard y.yard r memory → length r.marks ≤ length (checkpoints_in y) + 1
+pub marks_few : (y : ReplayState) (r : ReportState) (memory : List BankState) → IsReportOfYard y.yard r memory → length r.marks ≤ length (checkpoints_in y) + 1
 marks_few y r memory is =
     let all = ap length is.marks ∙ as_many_from (y.yard.beginning.epoch + 1) (marks_of y.yard.beginning (checkpoints_in y)) in
     let parts = length-append (recovery_marks y.yard.beginning.life) (lengths_of (checkpoints_in y)) in

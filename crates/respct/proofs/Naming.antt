@@ -1,9 +1,11 @@
--- Which words are those of a start, and what name they give its image.
-use Rattle.std.proofs.Common.{◌≡◌, ℕ, ◌<◌, ◌≤◌, Bool, true, List, [], ◌∷◌, length, drop, get_or, map, Option, Some, None, Bor, ap, sym, subst, ◌∙◌, inl, inr, arith}
+-- Which words are those of a form, and what name they give an image.
+use Rattle.std.proofs.Common.{◌≡◌, ℕ, ◌<◌, ◌≤◌, Bool, true, List, [], ◌∷◌, length, drop, get_or, map, Option, Some, None, Bor, refl, ap, sym, subst, ◌∙◌, inl, inr, arith}
 use Rattle.std.specs.Prelude.{codes, MatchOption}
 use Rattle.std.specs.Str.{bytes_eq}
 use Rattle.script_text.proofs.LineLaws.{same_bytes}
-use Rattle.respct.specs.Words.{IsName, AreNaming, AreOfForm, IsStart, IsCheck, AreOfNoForm}
+use Rattle.life_model.specs.declared.life.Life.{Life}
+use Rattle.life_model.specs.declared.life.Life.TheVariants.{Start, Resume}
+use Rattle.respct.specs.Words.{IsName, AreNaming, AreOfForm, IsCheck, AskFor, AreOfNoForm}
 
 -- what these words give
 abbrev pub Names : Option (Bor (List ℕ)) → List (List ℕ) → Type 0
@@ -27,6 +29,7 @@ unnamed text words first rest form are none name is =
 pub no_form : {X : Type 0} (text : X → List ℕ) (words : List X) (first : X) (rest : List X) → words ≡ first ∷ rest → ((name : List ℕ) → AreNaming (map text rest) name → ⊥) → AreOfNoForm (map text words)
 no_form text words first rest are none = record {
   no_start = unnamed text words first rest (codes "start") are none;
+  no_resume = unnamed text words first rest (codes "resume") are none;
   no_check = unnamed text words first rest (codes "check") are none;
 }
 
@@ -55,11 +58,10 @@ two_words text words option word name given some few is then same named tests =
     subst (λ (ws : List (List ℕ)). Names given ws) (ap (λ (o : List ℕ). o ∷ text word ∷ []) (sym same) ∙ sym (two_of text words option word some few is then))
     (tested given (text word) (subst (λ (n : List ℕ). Tests given n) named tests))
 
--- parts of lists of words: the first letter, the first word, the second, and all behind the first
-abbrev first_letter : List (List ℕ) → ℕ
+-- parts of lists of words: the first word, its first letter, the second word, and all behind the first
+abbrev first_letter : List ℕ → ℕ
 first_letter [] = 0
-first_letter ([] ∷ words) = 0
-first_letter ((c ∷ cs) ∷ words) = c
+first_letter (c ∷ cs) = c
 
 abbrev first_word : List (List ℕ) → List ℕ
 first_word [] = []
@@ -73,12 +75,14 @@ abbrev behind_first : List (List ℕ) → List (List ℕ)
 behind_first [] = []
 behind_first (word ∷ words) = words
 
--- words are those of one form
-pub one_form : (words : List (List ℕ)) (name other : List ℕ) → IsStart words name → IsCheck words other → ⊥
-one_form words name other start check =
-    let meet : codes "start" ∷ start.options ≡ codes "check" ∷ check.options = sym start.words_are ∙ check.words_are in
-    let letters : 115 ≡ 99 = ap first_letter meet in
-    absurd (omega (arith, letters))
+-- words of two forms have one first letter
+one_letter : (form another : List ℕ) (words : List (List ℕ)) (name other : List ℕ) → AreOfForm form words name → AreOfForm another words other → first_letter form ≡ first_letter another
+one_letter form another words name other is also = ap (λ (ws : List (List ℕ)). first_letter (first_word ws)) (sym is.words_are ∙ also.words_are)
+
+-- words of a life are not those of a check
+pub one_form : (life : Life) (words : List (List ℕ)) (name other : List ℕ) → AskFor life words name → IsCheck words other → ⊥
+one_form Start words name other ask check = let letters : 115 ≡ 99 = one_letter (codes "start") (codes "check") words name other ask check in absurd (omega (arith, letters))
+one_form Resume words name other ask check = let letters : 114 ≡ 99 = one_letter (codes "resume") (codes "check") words name other ask check in absurd (omega (arith, letters))
 
 -- options give one name
 one_naming : (options : List (List ℕ)) (name other : List ℕ) → AreNaming options name → AreNaming options other → name ≡ other
@@ -92,8 +96,25 @@ one_naming options name other (inr (was, inr d)) (inl e) = let n = ap length (sy
 one_naming options name other (inr (was, inr d)) (inr (is, inl e)) = let n = ap length (sym d ∙ e) in absurd (omega (arith, n))
 one_naming options name other (inr (was, inr d)) (inr (is, inr e)) = ap (λ (words : List (List ℕ)). drop 8 (first_word words)) (sym d ∙ e)
 
--- words of a check give one name
+-- words of a form give one name
+one_name_of : (form : List ℕ) (words : List (List ℕ)) (name other : List ℕ) → AreOfForm form words name → AreOfForm form words other → name ≡ other
+one_name_of form words name other is also =
+    let same : is.options ≡ also.options = ap behind_first (sym is.words_are ∙ also.words_are) in
+    one_naming also.options name other (subst (λ (options : List (List ℕ)). AreNaming options name) same is.naming) also.naming
+
 pub one_name : (words : List (List ℕ)) (name other : List ℕ) → IsCheck words name → IsCheck words other → name ≡ other
-one_name words name other check again =
-    let same : check.options ≡ again.options = ap behind_first (sym check.words_are ∙ again.words_are) in
-    one_naming again.options name other (subst (λ (options : List (List ℕ)). AreNaming options name) same check.naming) again.naming
+one_name words name other check again = one_name_of (codes "check") words name other check again
+
+-- words ask for one kind of life, and give its image one name
+pub one_life : (life another : Life) (words : List (List ℕ)) (name other : List ℕ) → AskFor life words name → AskFor another words other → (life ≡ another) × (name ≡ other)
+one_life Start Start words name other ask also = (refl, one_name_of (codes "start") words name other ask also)
+one_life Start Resume words name other ask also =
+    let letters : 115 ≡ 114 = one_letter (codes "start") (codes "resume") words name other ask also in absurd (omega (arith, letters))
+one_life Resume Start words name other ask also =
+    let letters : 114 ≡ 115 = one_letter (codes "resume") (codes "start") words name other ask also in absurd (omega (arith, letters))
+one_life Resume Resume words name other ask also = (refl, one_name_of (codes "resume") words name other ask also)
+
+-- words of no form ask for no life
+pub no_life_asked : (life : Life) (words : List (List ℕ)) (name : List ℕ) → AreOfNoForm words → AskFor life words name → ⊥
+no_life_asked Start words name none ask = none.no_start name ask
+no_life_asked Resume words name none ask = none.no_resume name ask

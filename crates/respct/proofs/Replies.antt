@@ -16,7 +16,7 @@ use Rattle.script_text.specs.ReportLimits.{IsReply, IsEntryOfWords}
 use Rattle.seq_object.specs.declared.sizes.Sizes.{Sizes}
 
 -- a value that may be missing is of 64 bits
-abbrev IsWordOr : Option ℕ → Type 0
+abbrev pub IsWordOr : Option ℕ → Type 0
 IsWordOr None = Unit {0}
 IsWordOr (Some value) = value < 2 ^ 64
 

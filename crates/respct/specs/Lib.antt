@@ -1,7 +1,10 @@
 pub mod Status
 pub mod Words
+pub mod Loads
+pub mod Misfits
+pub mod Openings
 pub mod Run
 pub mod Answers
 pub mod Steps
-pub mod Loads
+pub mod Enough
 pub mod Checks

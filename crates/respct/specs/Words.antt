@@ -1,5 +1,7 @@
 -- The words after the program's name.
 use Rattle.std.specs.Prelude.{◌≡◌, ◌≢◌, ◌⊎◌, ℕ, List, [], ◌∷◌, ◌++◌, codes}
+use Rattle.life_model.specs.declared.life.Life.{Life}
+use Rattle.life_model.specs.declared.life.Life.TheVariants.{Start, Resume}
 use Rattle.respct.specs.declared.words.Form.{Form}
 use Rattle.respct.specs.declared.words.Form.TheVariants as forms
 
@@ -23,19 +25,28 @@ pub record AreOfForm (first : List ℕ) (words : List (List ℕ)) (name : List �
   pub words_are : words ≡ first ∷ options
   pub naming : AreNaming options name
 
--- the words of a start and of a check
+-- the words of a start, of a resume and of a check
 abbrev pub IsStart : List (List ℕ) → List ℕ → Type 0
 IsStart words name = AreOfForm (codes "start") words name
+
+abbrev pub IsResume : List (List ℕ) → List ℕ → Type 0
+IsResume words name = AreOfForm (codes "resume") words name
 
 abbrev pub IsCheck : List (List ℕ) → List ℕ → Type 0
 IsCheck words name = AreOfForm (codes "check") words name
 
+-- the words ask for a life of this kind
+abbrev pub AskFor : Life → List (List ℕ) → List ℕ → Type 0
+AskFor Start words name = IsStart words name
+AskFor Resume words name = IsResume words name
+
 -- these are the words of a form
 abbrev pub AreWordsOf : List (List ℕ) → Form → Type 0
-AreWordsOf words (forms.Start image) = IsStart words image.now
+AreWordsOf words (forms.Lead life image) = AskFor life words image.now
 AreWordsOf words (forms.Check image) = IsCheck words image.now
 
 -- the words are those of no form
 pub record AreOfNoForm (words : List (List ℕ)) : Type 0 where
   pub no_start : (name : List ℕ) → IsStart words name → ⊥
+  pub no_resume : (name : List ℕ) → IsResume words name → ⊥
   pub no_check : (name : List ℕ) → IsCheck words name → ⊥

@@ -4,14 +4,20 @@
 
 mod answer;
 mod checking;
+mod fitting;
+mod leading;
 mod living;
 mod loading;
+mod opening;
 mod reading;
 mod saving;
-mod start;
 mod status;
 #[cfg(test)]
 mod tests;
+#[cfg(test)]
+mod tests_images;
+#[cfg(test)]
+mod tests_resumes;
 mod top;
 mod words;
 mod writing;

@@ -1,11 +1,10 @@
 //! Reads the script of a call.
 
-ghost use Rattle.std.specs.Prelude.{◌≡◌, ℕ, List, Some, IfOk, IfErr};
+ghost use Rattle.std.specs.Prelude.{IfOk, IfErr};
 ghost use Rattle.byte_ports.specs.Bytes.{TookSome};
-ghost use Rattle.byte_ports.specs.Causes.{Rose};
 ghost use Rattle.script_text.specs.Program.{program_of};
 ghost use Rattle.respct.specs.Run.{HasRead};
-ghost use Rattle.respct.specs.Steps.{IsUnread, IsReadDecided};
+ghost use Rattle.respct.specs.Steps.{IsUnread};
 
 use byte_ports::{ReadRefusal, Source, read_all};
 use script_text::{Script, ScriptFault, ScriptRefusal, parse};
@@ -32,8 +31,6 @@ pub fn read<S: Source>(alloc: Global, source: &mut S) -> Result<Script, NoScript
     ensures script { IfOk result (λ script. HasRead (S.left source.old) (S.left source.new) (program_of script)) }
     ensures refused { IfErr result (IsUnread (S.left source.old) (S.left source.new) (S.count source.old) (S.count source.new)) }
     ensures took { TookSome (S.left source.old) (S.left source.new) }
-    ensures decided { (Rose (S.count source.old) (S.count source.new) → ⊥)
-        → (bytes : List ℕ) → S.left source.old ≡ Some bytes → IsReadDecided bytes result }
 {
     let text = match read_all(alloc, source, SCRIPT_LIMIT) {
         Ok(text) => text,

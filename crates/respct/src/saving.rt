@@ -1,6 +1,6 @@
 //! Saves the image that a power cut leaves of a memory.
 
-ghost use Rattle.std.specs.Prelude.{◌≡◌, OnOk, OnErr};
+ghost use Rattle.std.specs.Prelude.{◌≡◌, ◌≤◌, OnOk, OnErr};
 ghost use Rattle.std.specs.Result.{IsErrOf};
 ghost use Rattle.byte_ports.specs.Causes.{Rose};
 ghost use Rattle.byte_ports.specs.Images.{SetsName, OthersSame};
@@ -30,6 +30,7 @@ pub fn save<G: Images>(
     ensures saved { OnOk result (SetsName (G.kept images.old) (G.kept images.new) name.now
         (image_bytes_of (sizes_of settings.now) (image_of memory.now (choosing keep.now memory.now)))) }
     ensures refused { OnErr result (OthersSame (G.kept images.old) (G.kept images.new) name.now) }
+    ensures later { G.count images.old ≤ G.count images.new }
     ensures failed { IsErrOf result StoreRefusal.Failed → Rose (G.count images.old) (G.count images.new) }
 {
     let image = match cut(alloc, memory, settings, keep) {

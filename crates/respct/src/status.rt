@@ -1,12 +1,14 @@
 //! How a call of the program ends, and the code and the text that tell it.
 
 ghost use Rattle.std.specs.Prelude.{◌≡◌, ◌↔◌, IsTrue};
-ghost use Rattle.respct.specs.Status.{code_of, status_of_end, status_of_refusal, status_of_start, status_of_check, IsRefusal};
+ghost use Rattle.respct.specs.Status.{code_of, status_of_end, status_of_unread, status_of_unloaded, status_of_unopened, status_of_refusal, status_of_life, status_of_check, IsRefusal};
 
 use crate::checking::NotChecked;
+use crate::fitting::Misfit;
+use crate::leading::NoReport;
 use crate::loading::NotLoaded;
+use crate::opening::NotOpened;
 use crate::reading::NoScript;
-use crate::start::NoReport;
 use byte_ports::StoreRefusal;
 use life_model::Outcome;
 use power_cut::ImageFault;
@@ -28,6 +30,8 @@ pub enum Status {
     Cut,
     /// What the image store keeps under the name is no lawful image: its first fault.
     Image(ImageFault),
+    /// The image that the store keeps under the name does not fit the script: the first misfit.
+    Misfit(Misfit),
     /// The source could not be read.
     ReadFault,
     /// The text for standard output could not be written; a prefix of it may have been.
@@ -43,9 +47,9 @@ pub enum Status {
 }
 
 impl Status {
-    /// The status of a start.
-    pub fn of_start(ended: Result<Outcome, NoReport>) -> Status
-        ensures { result ≡ status_of_start ended }
+    /// The status of a life.
+    pub fn of_life(ended: Result<Outcome, NoReport>) -> Status
+        ensures { result ≡ status_of_life ended }
     {
         match ended {
             Ok(outcome) => Status::of_end(outcome),
@@ -59,12 +63,9 @@ impl Status {
     {
         match ended {
             Ok(()) => Status::Finished,
-            Err(NotChecked::Unloaded(NotLoaded::Fault(fault))) => Status::Image(fault),
-            Err(NotChecked::Unloaded(NotLoaded::Missing)) => Status::NoImage,
-            Err(NotChecked::Unloaded(NotLoaded::Failed)) => Status::StoreFault,
+            Err(NotChecked::Unloaded(refusal)) => Status::of_unloaded(refusal),
             Err(NotChecked::Unwritten(StoreRefusal::Failed)) => Status::WriteFault,
-            Err(NotChecked::Unloaded(NotLoaded::OutOfMemory))
-            | Err(NotChecked::Unwritten(StoreRefusal::OutOfMemory)) => Status::OutOfMemory,
+            Err(NotChecked::Unwritten(StoreRefusal::OutOfMemory)) => Status::OutOfMemory,
         }
     }
 
@@ -80,24 +81,57 @@ impl Status {
         }
     }
 
-    /// The status of a start without its report.
+    /// The status of a life without its report.
     fn of_refusal(refusal: NoReport) -> Status
         ensures { result ≡ status_of_refusal refusal }
     {
         match refusal {
-            NoReport::Unread(NoScript::Failed) => Status::ReadFault,
-            NoReport::Unread(NoScript::TooLong) => Status::TooLong,
-            NoReport::Unread(NoScript::Fault(fault)) => Status::Script(fault),
+            NoReport::Unread(refusal) => Status::of_unread(refusal),
+            NoReport::Unopened(refusal) => Status::of_unopened(refusal),
             NoReport::Unsaved(StoreRefusal::Failed) => Status::StoreFault,
             NoReport::Unwritten(StoreRefusal::Failed) => Status::WriteFault,
-            NoReport::Unread(NoScript::OutOfMemory)
-            | NoReport::Untold
+            NoReport::Untold
             | NoReport::Unsaved(StoreRefusal::OutOfMemory)
             | NoReport::Unwritten(StoreRefusal::OutOfMemory) => Status::OutOfMemory,
         }
     }
 
-    /// The code with which the program exits, from 0 to 12. 6 is that of an image that does not fit.
+    /// The status of a life without a script.
+    fn of_unread(refusal: NoScript) -> Status
+        ensures { result ≡ status_of_unread refusal }
+    {
+        match refusal {
+            NoScript::Failed => Status::ReadFault,
+            NoScript::TooLong => Status::TooLong,
+            NoScript::Fault(fault) => Status::Script(fault),
+            NoScript::OutOfMemory => Status::OutOfMemory,
+        }
+    }
+
+    /// The status of a life without a memory over which it may begin.
+    fn of_unopened(refusal: NotOpened) -> Status
+        ensures { result ≡ status_of_unopened refusal }
+    {
+        match refusal {
+            NotOpened::Unloaded(refusal) => Status::of_unloaded(refusal),
+            NotOpened::Misfit(misfit) => Status::Misfit(misfit),
+            NotOpened::OutOfMemory => Status::OutOfMemory,
+        }
+    }
+
+    /// The status of a call that loads an image and has none.
+    fn of_unloaded(refusal: NotLoaded) -> Status
+        ensures { result ≡ status_of_unloaded refusal }
+    {
+        match refusal {
+            NotLoaded::Fault(fault) => Status::Image(fault),
+            NotLoaded::Missing => Status::NoImage,
+            NotLoaded::Failed => Status::StoreFault,
+            NotLoaded::OutOfMemory => Status::OutOfMemory,
+        }
+    }
+
+    /// The code with which the program exits, from 0 to 12.
     pub fn code(&self) -> u8
         ensures { result ≡ code_of self.now }
     {
@@ -108,6 +142,7 @@ impl Status {
             Status::Stalled => 3,
             Status::Cut => 4,
             Status::Image(_) => 5,
+            Status::Misfit(_) => 6,
             Status::ReadFault => 7,
             Status::WriteFault => 8,
             Status::StoreFault => 9,
@@ -147,6 +182,7 @@ impl fmt::Display for Status {
             Status::Stalled => f.write_str("stalled"),
             Status::Cut => f.write_str("cut"),
             Status::Image(fault) => write!(f, "image: {fault}"),
+            Status::Misfit(misfit) => write!(f, "misfit: {misfit}"),
             Status::ReadFault => f.write_str("cannot read the script"),
             Status::WriteFault => f.write_str("cannot write the report"),
             Status::StoreFault => f.write_str("cannot use the image store"),

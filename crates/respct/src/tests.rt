@@ -1,5 +1,6 @@
 //! Runs of the whole program over objects in memory, with the answers that its pages state.
 
+use crate::fitting::{Misfit, MisfitKind};
 use crate::status::Status;
 use crate::top::respct;
 use byte_ports::{FileImages, Images, MemoryImages, MemorySink, MemorySource};
@@ -32,7 +33,7 @@ const TWO_TAKES: &str =
     "respct 1\nthreads 2\nshards 1\nlines 16\nevery 1\nturns rr 400\nkeep none\nthread 0\ntake\nthread 1\ntake\nend\n";
 
 /// The script of one put.
-const ONE_PUT: Script = Script {
+pub(crate) const ONE_PUT: Script = Script {
     every: 1,
     turns: 49,
     keep: "none",
@@ -41,16 +42,16 @@ const ONE_PUT: Script = Script {
 
 /// What differs between the scripts of one thread. Each has one thread, one shard and rooms of 16 lines.
 #[derive(Clone, Copy)]
-struct Script {
-    every: u32,
-    turns: u32,
-    keep: &'static str,
+pub(crate) struct Script {
+    pub every: u32,
+    pub turns: u32,
+    pub keep: &'static str,
     /// The commands, each with its line feed.
-    commands: &'static str,
+    pub commands: &'static str,
 }
 
 impl Script {
-    fn text(self, alloc: Global) -> Result<Vec<u8>, AllocError> {
+    pub fn text(self, alloc: Global) -> Result<Vec<u8>, AllocError> {
         let text = format!(in alloc;
             "respct 1\nthreads 1\nshards 1\nlines 16\nevery {}\nturns rr {}\nkeep {}\nthread 0\n{}end\n",
             self.every, self.turns, self.keep, self.commands
@@ -72,7 +73,7 @@ fn words_in(alloc: Global, words: &str) -> Result<Vec<String>, AllocError> {
 }
 
 /// The name of an image where the words give none.
-const DEFAULT_NAME: &str = "respct.image";
+pub(crate) const DEFAULT_NAME: &str = "respct.image";
 
 /// What a run answered and left.
 #[derive(Drop)]
@@ -349,7 +350,7 @@ fn a_queue_driven_full_and_empty(rt: HostRuntime) -> Result<(), Fail> {
 }
 
 /// The words of a line of an image, each of eight bytes with the lowest first.
-fn line_of(image: &[u8], line: u32) -> [u64; 8] {
+pub(crate) fn line_of(image: &[u8], line: u32) -> [u64; 8] {
     let mut words = [0u64; 8];
     for w in 0..8usize {
         let at = 24 + 64 * line as usize + 8 * w;
@@ -484,7 +485,7 @@ fn images_by_their_names(rt: HostRuntime) -> Result<(), Fail> {
 }
 
 /// The answer to these words over this text and these images, and what was written.
-fn told(
+pub(crate) fn told(
     rt: HostRuntime,
     words: &str,
     text: Vec<u8>,
@@ -543,7 +544,8 @@ fn other_words_are_refused(rt: HostRuntime) -> Result<(), Fail> {
         "start --image a b",
         "start --image a --image b",
         "check extra",
-        "resume",
+        "resume extra",
+        "resume --image",
         "",
     ] {
         let left = answer(rt, words, Vec::new(rt.alloc()), NO_FAILS)?;
@@ -676,6 +678,15 @@ fn each_status_has_its_code_and_text(rt: HostRuntime) -> Result<(), Fail> {
             Status::Image(ImageFault::TagAhead { room: 3, line: 0 }),
             5,
             "image: tag ahead, room 3, line 0",
+        ),
+        (
+            Status::Misfit(Misfit {
+                kind: MisfitKind::Position(3),
+                image: 2,
+                script: 1,
+            }),
+            6,
+            "misfit: position of thread 3 2, 1",
         ),
         (Status::ReadFault, 7, "cannot read the script"),
         (Status::WriteFault, 8, "cannot write the report"),

@@ -4,6 +4,8 @@ ghost use Rattle.std.specs.Prelude.{◌≡◌, ℕ, List, map, MatchOption};
 ghost use Rattle.std.specs.String.{string_bytes};
 ghost use Rattle.respct.specs.Words.{IsName, AreNaming, AreWordsOf, AreOfNoForm};
 
+use life_model::Life;
+
 /// The name of an image where none is given.
 const DEFAULT_IMAGE: &str = "respct.image";
 
@@ -16,8 +18,8 @@ const OPTION_WITH_NAME: &str = "--image=";
 /// What the words ask for.
 #[derive(Clone, Copy, Debug, PartialEq, Eq)]
 pub enum Form<'a> {
-    /// A life over formatted memory, whose image is kept under this name.
-    Start { image: &'a str },
+    /// A life of this kind, whose image is kept under this name; a resume goes on from the image that was kept there.
+    Lead { life: Life, image: &'a str },
     /// The judgement of the image under this name.
     Check { image: &'a str },
 }
@@ -29,7 +31,15 @@ pub fn form_of(words: &[String]) -> Option<Form<'_>>
     let (word, options) = words.split_first()?;
     let image = image_name(options)?;
     if word.as_str() == "start" {
-        Some(Form::Start { image })
+        Some(Form::Lead {
+            life: Life::Start,
+            image,
+        })
+    } else if word.as_str() == "resume" {
+        Some(Form::Lead {
+            life: Life::Resume,
+            image,
+        })
     } else if word.as_str() == "check" {
         Some(Form::Check { image })
     } else {

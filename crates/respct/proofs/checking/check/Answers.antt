@@ -1,7 +1,7 @@
 use Rattle.std.proofs.Common.{◌≡◌, Ok, Err, ap, refl}
 use Rattle.byte_ports.specs.declared.refusal.StoreRefusal.TheVariants as stores
 use Rattle.respct.specs.Checks.{found_text}
-use Rattle.respct.proofs.Answering.{cause_of}
+use Rattle.respct.proofs.Steps.{cause_of}
 use Rattle.respct.proofs.Checks.{text_is, loaded_decides, unloaded_decides, starved}
 use Rattle.respct.proofs.checking.check.Goals as goal
 

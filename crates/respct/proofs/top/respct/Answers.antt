@@ -32,14 +32,20 @@ returns-clause-unwritten g c = rw (ended c.respct_plain.result) (λ e. c.respct_
 pub returns-clause-starved : goal.returns-clause-starved
 returns-clause-starved g c = rw (ended c.respct_plain.result) (λ e. c.respct_plain.ensures.starved (ended c.respct_plain.result ∙ ap Ended e))
 
-pub returns-clause-image : goal.returns-clause-image
-returns-clause-image g c = rw (ended c.respct_plain.result) (λ f e. c.respct_plain.ensures.image f (ended c.respct_plain.result ∙ ap Ended e))
-
-pub returns-clause-judged : goal.returns-clause-judged
-returns-clause-judged g c = λ name is loading writing named told. rw (ended c.respct_plain.result) (c.respct_plain.ensures.judged name is loading writing named told)
-
 pub returns-clause-script : goal.returns-clause-script
 returns-clause-script g c = rw (ended c.respct_plain.result) (λ f e. c.respct_plain.ensures.script f (ended c.respct_plain.result ∙ ap Ended e))
 
+pub returns-clause-image : goal.returns-clause-image
+returns-clause-image g c = rw (ended c.respct_plain.result) (λ f e. c.respct_plain.ensures.image f (ended c.respct_plain.result ∙ ap Ended e))
+
+pub returns-clause-misfit : goal.returns-clause-misfit
+returns-clause-misfit g c = rw (ended c.respct_plain.result) (λ f e. c.respct_plain.ensures.misfit f (ended c.respct_plain.result ∙ ap Ended e))
+
 pub returns-clause-complete : goal.returns-clause-complete
-returns-clause-complete g c = λ name is reading saving writing bytes told. rw (ended c.respct_plain.result) (c.respct_plain.ensures.complete name is reading saving writing bytes told)
+returns-clause-complete g c = λ life name is reading saving writing bytes told. rw (ended c.respct_plain.result) (c.respct_plain.ensures.complete life name is reading saving writing bytes told)
+
+pub returns-clause-in_time : goal.returns-clause-in_time
+returns-clause-in_time g c = λ life name is bytes told p built. rw (ended c.respct_plain.result) (c.respct_plain.ensures.in_time life name is bytes told p built)
+
+pub returns-clause-judged : goal.returns-clause-judged
+returns-clause-judged g c = λ name is loading writing named told. rw (ended c.respct_plain.result) (c.respct_plain.ensures.judged name is loading writing named told)

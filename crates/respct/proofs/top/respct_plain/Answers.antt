@@ -1,84 +1,147 @@
-use Rattle.std.proofs.Common.{◌≡◌, ℕ, List, map, rules, sym, ap, subst, ◌∙◌, inl, inr}
+use Rattle.std.proofs.Common.{◌≡◌, ℕ, List, map, rules, refl, sym, subst}
 use Rattle.std.specs.FinMap.{get}
 use Rattle.std.specs.String.{string_bytes}
 use Rattle.respct.specs.declared.status.Status.{Status}
-use Rattle.respct.specs.Answers.{LeadsCheckTo, status_in}
-use Rattle.respct.proofs.Naming.{one_form, one_name}
-use Rattle.respct.proofs.Answering.{finishes, stalls, is_cut, cannot_save, cannot_write, starves, is_of_start}
-use Rattle.respct.proofs.Judging.{no_life, is_of_check, finished, refused, none, cannot_load, cannot_tell, check_starves, judges}
+use Rattle.respct.specs.Answers.{LeadsCheckTo}
+use Rattle.respct.specs.Steps.{ports}
+use Rattle.respct.proofs.Naming.{one_form, one_name, no_life_asked}
+use Rattle.respct.proofs.Telling.{Told, life_status, check_status, answered}
+use Rattle.respct.proofs.Deciding.{decides}
+use Rattle.respct.proofs.EnoughTurns.{in_time}
+use Rattle.respct.proofs.Judging.{judges}
+use Rattle.respct.proofs.top.respct_plain.Given.{Over}
 use Rattle.respct.proofs.top.respct_plain.Goals as goal
 
--- OF A START.
-pub returns-in-Some-Start-clause-finished : goal.returns-in-Some-Start-clause-finished
-returns-in-Some-Start-clause-finished g c = λ e. finishes _ _ _ _ _ c.start-ended.result (search rules) c.start-ended.ensures.reported c.start-ended.ensures.refused (sym c.of_start.ensures ∙ ap status_in e)
+-- OF A LIFE.
 
-pub returns-in-Some-Start-clause-stalled : goal.returns-in-Some-Start-clause-stalled
-returns-in-Some-Start-clause-stalled g c = λ e. stalls _ _ _ _ _ c.start-ended.result (search rules) c.start-ended.ensures.reported c.start-ended.ensures.refused (sym c.of_start.ensures ∙ ap status_in e)
+-- its status tells
+life : (g : Over) (c : goal.After-of_life g) → Told (map string_bytes c.args.words.now)
+    (ports (g.S.Source.left c.args.script.now) (g.S.Source.count c.args.script.now) (g.W.Sink.held c.args.report.now) (g.W.Sink.count c.args.report.now) (g.G.Images.kept c.args.images.now) (g.G.Images.count c.args.images.now))
+    (ports (g.S.Source.left c.lead-ended.new.source) (g.S.Source.count c.lead-ended.new.source) (g.W.Sink.held c.lead-ended.new.sink) (g.W.Sink.count c.lead-ended.new.sink) (g.G.Images.kept c.lead-ended.new.images) (g.G.Images.count c.lead-ended.new.images))
+    c.lead-ended.new.memory c.of_life.result
+life g c = life_status c.in-Some-Lead.life (map string_bytes c.args.words.now) c.in-Some-Lead.image.now
+    (ports (g.S.Source.left c.args.script.now) (g.S.Source.count c.args.script.now) (g.W.Sink.held c.args.report.now) (g.W.Sink.count c.args.report.now) (g.G.Images.kept c.args.images.now) (g.G.Images.count c.args.images.now))
+    (ports (g.S.Source.left c.lead-ended.new.source) (g.S.Source.count c.lead-ended.new.source) (g.W.Sink.held c.lead-ended.new.sink) (g.W.Sink.count c.lead-ended.new.sink) (g.G.Images.kept c.lead-ended.new.images) (g.G.Images.count c.lead-ended.new.images))
+    c.lead-ended.new.memory (search rules) c.lead-ended.result c.lead-ended.ensures.reported c.lead-ended.ensures.refused c.of_life.result c.of_life.ensures
 
-pub returns-in-Some-Start-clause-cut : goal.returns-in-Some-Start-clause-cut
-returns-in-Some-Start-clause-cut g c = λ e. is_cut _ _ _ _ _ c.start-ended.result (search rules) c.start-ended.ensures.reported c.start-ended.ensures.refused (sym c.of_start.ensures ∙ ap status_in e)
+pub returns-in-Some-Lead-clause-usage : goal.returns-in-Some-Lead-clause-usage
+returns-in-Some-Lead-clause-usage g c = (λ e. absurd (answered _ _ _ _ _ _ (life g c) e), λ none. absurd (no_life_asked c.in-Some-Lead.life (map string_bytes c.args.words.now) c.in-Some-Lead.image.now none (search rules)))
 
-pub returns-in-Some-Start-clause-unsaved : goal.returns-in-Some-Start-clause-unsaved
-returns-in-Some-Start-clause-unsaved g c = λ e. cannot_save _ _ _ _ _ c.start-ended.result (search rules) c.start-ended.ensures.reported c.start-ended.ensures.refused (sym c.of_start.ensures ∙ ap status_in e)
+pub returns-in-Some-Lead-clause-finished : goal.returns-in-Some-Lead-clause-finished
+returns-in-Some-Lead-clause-finished g c = λ e. answered _ _ _ _ _ _ (life g c) e
 
-pub returns-in-Some-Start-clause-unwritten : goal.returns-in-Some-Start-clause-unwritten
-returns-in-Some-Start-clause-unwritten g c = λ e. cannot_write _ _ _ _ _ c.start-ended.result (search rules) c.start-ended.ensures.reported c.start-ended.ensures.refused (sym c.of_start.ensures ∙ ap status_in e)
+pub returns-in-Some-Lead-clause-stalled : goal.returns-in-Some-Lead-clause-stalled
+returns-in-Some-Lead-clause-stalled g c = λ e. answered _ _ _ _ _ _ (life g c) e
 
-pub returns-in-Some-Start-clause-starved : goal.returns-in-Some-Start-clause-starved
-returns-in-Some-Start-clause-starved g c = λ e. starves _ _ _ _ _ c.start-ended.result (search rules) c.start-ended.ensures.reported c.start-ended.ensures.refused (sym c.of_start.ensures ∙ ap status_in e)
+pub returns-in-Some-Lead-clause-cut : goal.returns-in-Some-Lead-clause-cut
+returns-in-Some-Lead-clause-cut g c = λ e. answered _ _ _ _ _ _ (life g c) e
 
-pub returns-in-Some-Start-clause-image : goal.returns-in-Some-Start-clause-image
-returns-in-Some-Start-clause-image g c = λ f e. absurd (is_of_start c.start-ended.result _ _ c.of_start.ensures e)
+pub returns-in-Some-Lead-clause-unasked : goal.returns-in-Some-Lead-clause-unasked
+returns-in-Some-Lead-clause-unasked g c = λ e. absurd (answered _ _ _ _ _ _ (life g c) e)
 
-pub returns-in-Some-Start-clause-missing : goal.returns-in-Some-Start-clause-missing
-returns-in-Some-Start-clause-missing g c = λ e. absurd (is_of_start c.start-ended.result _ _ c.of_start.ensures e)
+pub returns-in-Some-Lead-clause-script : goal.returns-in-Some-Lead-clause-script
+returns-in-Some-Lead-clause-script g c = λ f e. answered _ _ _ _ _ _ (life g c) e
 
-pub returns-in-Some-Start-clause-judged : goal.returns-in-Some-Start-clause-judged
-returns-in-Some-Start-clause-judged g c = λ name is loading writing named told. absurd (one_form (map string_bytes c.args.words.now) c.in-Some-Start.image.now name (search rules) is)
+pub returns-in-Some-Lead-clause-unread : goal.returns-in-Some-Lead-clause-unread
+returns-in-Some-Lead-clause-unread g c = λ e. answered _ _ _ _ _ _ (life g c) e
+
+pub returns-in-Some-Lead-clause-too_long : goal.returns-in-Some-Lead-clause-too_long
+returns-in-Some-Lead-clause-too_long g c = λ e. answered _ _ _ _ _ _ (life g c) e
+
+pub returns-in-Some-Lead-clause-image : goal.returns-in-Some-Lead-clause-image
+returns-in-Some-Lead-clause-image g c = λ f e. answered _ _ _ _ _ _ (life g c) e
+
+pub returns-in-Some-Lead-clause-misfit : goal.returns-in-Some-Lead-clause-misfit
+returns-in-Some-Lead-clause-misfit g c = λ m e. answered _ _ _ _ _ _ (life g c) e
+
+pub returns-in-Some-Lead-clause-missing : goal.returns-in-Some-Lead-clause-missing
+returns-in-Some-Lead-clause-missing g c = λ e. answered _ _ _ _ _ _ (life g c) e
+
+pub returns-in-Some-Lead-clause-unsaved : goal.returns-in-Some-Lead-clause-unsaved
+returns-in-Some-Lead-clause-unsaved g c = λ e. answered _ _ _ _ _ _ (life g c) e
+
+pub returns-in-Some-Lead-clause-unwritten : goal.returns-in-Some-Lead-clause-unwritten
+returns-in-Some-Lead-clause-unwritten g c = λ e. answered _ _ _ _ _ _ (life g c) e
+
+pub returns-in-Some-Lead-clause-starved : goal.returns-in-Some-Lead-clause-starved
+returns-in-Some-Lead-clause-starved g c = λ e. answered _ _ _ _ _ _ (life g c) e
+
+pub returns-in-Some-Lead-clause-complete : goal.returns-in-Some-Lead-clause-complete
+returns-in-Some-Lead-clause-complete g c = λ life_asked name is reading saving writing bytes told.
+    decides life_asked (map string_bytes c.args.words.now) name
+    (ports (g.S.Source.left c.args.script.now) (g.S.Source.count c.args.script.now) (g.W.Sink.held c.args.report.now) (g.W.Sink.count c.args.report.now) (g.G.Images.kept c.args.images.now) (g.G.Images.count c.args.images.now))
+    (ports (g.S.Source.left c.lead-ended.new.source) (g.S.Source.count c.lead-ended.new.source) (g.W.Sink.held c.lead-ended.new.sink) (g.W.Sink.count c.lead-ended.new.sink) (g.G.Images.kept c.lead-ended.new.images) (g.G.Images.count c.lead-ended.new.images))
+    c.lead-ended.new.memory bytes is told reading saving writing c.of_life.result (life g c)
+
+pub returns-in-Some-Lead-clause-in_time : goal.returns-in-Some-Lead-clause-in_time
+returns-in-Some-Lead-clause-in_time g c = λ life_asked name is bytes told p built.
+    in_time life_asked (map string_bytes c.args.words.now) name
+    (ports (g.S.Source.left c.args.script.now) (g.S.Source.count c.args.script.now) (g.W.Sink.held c.args.report.now) (g.W.Sink.count c.args.report.now) (g.G.Images.kept c.args.images.now) (g.G.Images.count c.args.images.now))
+    (ports (g.S.Source.left c.lead-ended.new.source) (g.S.Source.count c.lead-ended.new.source) (g.W.Sink.held c.lead-ended.new.sink) (g.W.Sink.count c.lead-ended.new.sink) (g.G.Images.kept c.lead-ended.new.images) (g.G.Images.count c.lead-ended.new.images))
+    c.lead-ended.new.memory bytes p c.of_life.result is told built (life g c)
+
+pub returns-in-Some-Lead-clause-judged : goal.returns-in-Some-Lead-clause-judged
+returns-in-Some-Lead-clause-judged g c = λ name is loading writing named told. absurd (one_form c.in-Some-Lead.life (map string_bytes c.args.words.now) c.in-Some-Lead.image.now name (search rules) is)
 
 -- OF A CHECK.
-pub returns-in-Some-Check-clause-finished : goal.returns-in-Some-Check-clause-finished
-returns-in-Some-Check-clause-finished g c = λ e. inr (c.in-Some-Check.image.now, search rules, finished _ _ _ _ _ _ _ _ c.check-ended.result c.check-ended.ensures.checked c.check-ended.ensures.refused (sym c.of_check.ensures ∙ ap status_in e), no_life _ _ _ _ c.check-ended.ensures.same c.requires)
 
-pub returns-in-Some-Check-clause-image : goal.returns-in-Some-Check-clause-image
-returns-in-Some-Check-clause-image g c = λ f e. let is = refused _ _ _ _ _ _ _ _ c.check-ended.result f c.check-ended.ensures.checked c.check-ended.ensures.refused (sym c.of_check.ensures ∙ ap status_in e) in (c.in-Some-Check.image.now, search rules, is.0, is.1, no_life _ _ _ _ c.check-ended.ensures.same c.requires)
-
-pub returns-in-Some-Check-clause-missing : goal.returns-in-Some-Check-clause-missing
-returns-in-Some-Check-clause-missing g c = λ e. let is = none _ _ _ _ _ _ _ _ c.check-ended.result c.check-ended.ensures.checked c.check-ended.ensures.refused (sym c.of_check.ensures ∙ ap status_in e) in (c.in-Some-Check.image.now, search rules, is.0, is.1, no_life _ _ _ _ c.check-ended.ensures.same c.requires)
-
-pub returns-in-Some-Check-clause-unsaved : goal.returns-in-Some-Check-clause-unsaved
-returns-in-Some-Check-clause-unsaved g c = λ e. let is = cannot_load _ _ _ _ _ _ _ _ c.check-ended.result c.check-ended.ensures.checked c.check-ended.ensures.refused (sym c.of_check.ensures ∙ ap status_in e) in (is.0, inr (c.in-Some-Check.image.now, search rules, is.1, no_life _ _ _ _ c.check-ended.ensures.same c.requires))
-
-pub returns-in-Some-Check-clause-unwritten : goal.returns-in-Some-Check-clause-unwritten
-returns-in-Some-Check-clause-unwritten g c = λ e. let is = cannot_tell _ _ _ _ _ _ _ _ c.check-ended.result c.check-ended.ensures.checked c.check-ended.ensures.refused (sym c.of_check.ensures ∙ ap status_in e) in (is.0, inr (c.in-Some-Check.image.now, search rules, is.1, no_life _ _ _ _ c.check-ended.ensures.same c.requires))
-
-pub returns-in-Some-Check-clause-starved : goal.returns-in-Some-Check-clause-starved
-returns-in-Some-Check-clause-starved g c = λ e.
-    check_starves _ c.in-Some-Check.image.now _ _ _ _ _ _ _ _ _ _ (search rules) c.check-ended.ensures.same c.requires c.check-ended.result c.check-ended.ensures.checked c.check-ended.ensures.refused (sym c.of_check.ensures ∙ ap status_in e)
+-- its status tells
+check : (g : Over) (c : goal.After-of_check g) → Told (map string_bytes c.args.words.now)
+    (ports (g.S.Source.left c.args.script.now) (g.S.Source.count c.args.script.now) (g.W.Sink.held c.args.report.now) (g.W.Sink.count c.args.report.now) (g.G.Images.kept c.args.images.now) (g.G.Images.count c.args.images.now))
+    (ports (g.S.Source.left c.args.script.now) (g.S.Source.count c.args.script.now) (g.W.Sink.held c.check-ended.new.sink) (g.W.Sink.count c.check-ended.new.sink) (g.G.Images.kept c.check-ended.new.images) (g.G.Images.count c.check-ended.new.images))
+    c.args.memory.now c.of_check.result
+check g c = check_status (map string_bytes c.args.words.now) c.in-Some-Check.image.now
+    (ports (g.S.Source.left c.args.script.now) (g.S.Source.count c.args.script.now) (g.W.Sink.held c.args.report.now) (g.W.Sink.count c.args.report.now) (g.G.Images.kept c.args.images.now) (g.G.Images.count c.args.images.now))
+    (ports (g.S.Source.left c.args.script.now) (g.S.Source.count c.args.script.now) (g.W.Sink.held c.check-ended.new.sink) (g.W.Sink.count c.check-ended.new.sink) (g.G.Images.kept c.check-ended.new.images) (g.G.Images.count c.check-ended.new.images))
+    c.args.memory.now (search rules) refl c.check-ended.ensures.same c.requires c.check-ended.result c.check-ended.ensures.checked c.check-ended.ensures.refused c.of_check.result c.of_check.ensures
 
 pub returns-in-Some-Check-clause-usage : goal.returns-in-Some-Check-clause-usage
-returns-in-Some-Check-clause-usage g c = (λ e. absurd (is_of_check c.check-ended.result _ _ c.of_check.ensures e), λ none. absurd (none.no_check c.in-Some-Check.image.now (search rules)))
+returns-in-Some-Check-clause-usage g c = (λ e. absurd (answered _ _ _ _ _ _ (check g c) e), λ none. absurd (none.no_check c.in-Some-Check.image.now (search rules)))
+
+pub returns-in-Some-Check-clause-finished : goal.returns-in-Some-Check-clause-finished
+returns-in-Some-Check-clause-finished g c = λ e. answered _ _ _ _ _ _ (check g c) e
 
 pub returns-in-Some-Check-clause-stalled : goal.returns-in-Some-Check-clause-stalled
-returns-in-Some-Check-clause-stalled g c = λ e. absurd (is_of_check c.check-ended.result _ _ c.of_check.ensures e)
+returns-in-Some-Check-clause-stalled g c = λ e. answered _ _ _ _ _ _ (check g c) e
 
 pub returns-in-Some-Check-clause-cut : goal.returns-in-Some-Check-clause-cut
-returns-in-Some-Check-clause-cut g c = λ e. absurd (is_of_check c.check-ended.result _ _ c.of_check.ensures e)
+returns-in-Some-Check-clause-cut g c = λ e. answered _ _ _ _ _ _ (check g c) e
 
 pub returns-in-Some-Check-clause-unasked : goal.returns-in-Some-Check-clause-unasked
-returns-in-Some-Check-clause-unasked g c = λ e. absurd (is_of_check c.check-ended.result _ _ c.of_check.ensures e)
+returns-in-Some-Check-clause-unasked g c = λ e. absurd (answered _ _ _ _ _ _ (check g c) e)
 
 pub returns-in-Some-Check-clause-script : goal.returns-in-Some-Check-clause-script
-returns-in-Some-Check-clause-script g c = λ f e. absurd (is_of_check c.check-ended.result _ _ c.of_check.ensures e)
+returns-in-Some-Check-clause-script g c = λ f e. answered _ _ _ _ _ _ (check g c) e
 
 pub returns-in-Some-Check-clause-unread : goal.returns-in-Some-Check-clause-unread
-returns-in-Some-Check-clause-unread g c = λ e. absurd (is_of_check c.check-ended.result _ _ c.of_check.ensures e)
+returns-in-Some-Check-clause-unread g c = λ e. answered _ _ _ _ _ _ (check g c) e
 
 pub returns-in-Some-Check-clause-too_long : goal.returns-in-Some-Check-clause-too_long
-returns-in-Some-Check-clause-too_long g c = λ e. absurd (is_of_check c.check-ended.result _ _ c.of_check.ensures e)
+returns-in-Some-Check-clause-too_long g c = λ e. answered _ _ _ _ _ _ (check g c) e
+
+pub returns-in-Some-Check-clause-image : goal.returns-in-Some-Check-clause-image
+returns-in-Some-Check-clause-image g c = λ f e. answered _ _ _ _ _ _ (check g c) e
+
+pub returns-in-Some-Check-clause-misfit : goal.returns-in-Some-Check-clause-misfit
+returns-in-Some-Check-clause-misfit g c = λ m e. answered _ _ _ _ _ _ (check g c) e
+
+pub returns-in-Some-Check-clause-missing : goal.returns-in-Some-Check-clause-missing
+returns-in-Some-Check-clause-missing g c = λ e. answered _ _ _ _ _ _ (check g c) e
+
+pub returns-in-Some-Check-clause-unsaved : goal.returns-in-Some-Check-clause-unsaved
+returns-in-Some-Check-clause-unsaved g c = λ e. answered _ _ _ _ _ _ (check g c) e
+
+pub returns-in-Some-Check-clause-unwritten : goal.returns-in-Some-Check-clause-unwritten
+returns-in-Some-Check-clause-unwritten g c = λ e. answered _ _ _ _ _ _ (check g c) e
+
+pub returns-in-Some-Check-clause-starved : goal.returns-in-Some-Check-clause-starved
+returns-in-Some-Check-clause-starved g c = λ e. answered _ _ _ _ _ _ (check g c) e
 
 pub returns-in-Some-Check-clause-complete : goal.returns-in-Some-Check-clause-complete
-returns-in-Some-Check-clause-complete g c = λ name is reading saving writing bytes told. absurd (one_form _ name c.in-Some-Check.image.now is (search rules))
+returns-in-Some-Check-clause-complete g c = λ life_asked name is reading saving writing bytes told. absurd (one_form life_asked (map string_bytes c.args.words.now) name c.in-Some-Check.image.now is (search rules))
+
+pub returns-in-Some-Check-clause-in_time : goal.returns-in-Some-Check-clause-in_time
+returns-in-Some-Check-clause-in_time g c = λ life_asked name is bytes told p built. absurd (one_form life_asked (map string_bytes c.args.words.now) name c.in-Some-Check.image.now is (search rules))
 
 pub returns-in-Some-Check-clause-judged : goal.returns-in-Some-Check-clause-judged
 returns-in-Some-Check-clause-judged g c = λ name is loading writing named told.
@@ -88,7 +151,10 @@ returns-in-Some-Check-clause-judged g c = λ name is loading writing named told.
 
 -- OF NO FORM.
 pub returns-in-None-clause-complete : goal.returns-in-None-clause-complete
-returns-in-None-clause-complete g c = λ name is reading saving writing bytes told. absurd (c.in-None.ensures.no_start name is)
+returns-in-None-clause-complete g c = λ life_asked name is reading saving writing bytes told. absurd (no_life_asked life_asked (map string_bytes c.args.words.now) name c.in-None.ensures is)
+
+pub returns-in-None-clause-in_time : goal.returns-in-None-clause-in_time
+returns-in-None-clause-in_time g c = λ life_asked name is bytes told p built. absurd (no_life_asked life_asked (map string_bytes c.args.words.now) name c.in-None.ensures is)
 
 pub returns-in-None-clause-judged : goal.returns-in-None-clause-judged
 returns-in-None-clause-judged g c = λ name is loading writing named told. absurd (c.in-None.ensures.no_check name is)

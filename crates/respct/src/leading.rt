@@ -1,25 +1,25 @@
-//! A start: reads the script, leads its life over formatted memory, saves the image, and writes the report.
+//! A life from its script to its report: reads the script, opens the memory, leads the life, saves its image, and writes the report.
 
-ghost use Rattle.std.specs.Prelude.{◌≡◌, ℕ, [], List, Some, IfOk, IfErr};
-ghost use Rattle.byte_ports.specs.Causes.{Rose};
-ghost use Rattle.respct.specs.Status.{status_of_start};
-ghost use Rattle.respct.specs.Answers.{IsDecided};
+ghost use Rattle.std.specs.Prelude.{◌≡◌, [], IfOk, IfErr};
 ghost use Rattle.respct.specs.Steps.{ports, HasReported, IsUnreported};
 
 use crate::living::live;
+use crate::opening::{NotOpened, open};
 use crate::reading::{NoScript, read};
 use crate::saving::save;
 use crate::writing::write;
 use byte_ports::{Images, Sink, Source, StoreRefusal};
-use life_model::Outcome;
+use life_model::{Life, Outcome};
 use line_memory::Memory;
 use std::alloc::Global;
 
-/// Why a start ends without its report.
+/// Why a life ends without its report.
 #[derive(Clone, Copy, Debug, PartialEq, Eq)]
 pub enum NoReport {
     /// There is no script, so that no life began.
     Unread(NoScript),
+    /// There is no memory over which the life may begin.
+    Unopened(NotOpened),
     /// Memory ran out before the life was told. What it left was given up.
     Untold,
     /// The image could not be saved.
@@ -28,9 +28,11 @@ pub enum NoReport {
     Unwritten(StoreRefusal),
 }
 
-/// Reads the script, leads its life over formatted memory, saves the image under this name, writes the report, and says how the life ended.
-pub fn start<S: Source, G: Images, W: Sink>(
+/// Reads the script, leads its life over formatted memory, or, of a resume, on from the image under this name, saves the image of the life under
+/// this name, writes the report, and says how the life ended.
+pub fn lead<S: Source, G: Images, W: Sink>(
     alloc: Global,
+    life: Life,
     source: &mut S,
     images: &mut G,
     name: &str,
@@ -38,24 +40,24 @@ pub fn start<S: Source, G: Images, W: Sink>(
     memory: &mut Memory,
 ) -> Result<Outcome, NoReport>
     requires { memory.old ≡ [] }
-    ensures reported { IfOk result (HasReported name.now
+    ensures reported { IfOk result (HasReported life name.now
         (ports (S.left source.old) (S.count source.old) (W.held sink.old) (W.count sink.old) (G.kept images.old) (G.count images.old))
         (ports (S.left source.new) (S.count source.new) (W.held sink.new) (W.count sink.new) (G.kept images.new) (G.count images.new))
         memory.new) }
-    ensures refused { IfErr result (IsUnreported name.now
+    ensures refused { IfErr result (IsUnreported life name.now
         (ports (S.left source.old) (S.count source.old) (W.held sink.old) (W.count sink.old) (G.kept images.old) (G.count images.old))
         (ports (S.left source.new) (S.count source.new) (W.held sink.new) (W.count sink.new) (G.kept images.new) (G.count images.new))
         memory.new) }
-    ensures decided { (Rose (S.count source.old) (S.count source.new) → ⊥)
-        → (Rose (G.count images.old) (G.count images.new) → ⊥)
-        → (Rose (W.count sink.old) (W.count sink.new) → ⊥)
-        → (bytes : List ℕ) → S.left source.old ≡ Some bytes → IsDecided bytes (status_of_start result) }
 {
     let script = match read(alloc, source) {
         Ok(script) => script,
         Err(refusal) => return Err(NoReport::Unread(refusal)),
     };
-    let report = match live(alloc, &script, memory) {
+    match open(alloc, life, &script, images, name) {
+        Ok(opened) => *memory = opened,
+        Err(refusal) => return Err(NoReport::Unopened(refusal)),
+    }
+    let report = match live(alloc, &script, life, memory) {
         Ok(report) => report,
         Err(_) => return Err(NoReport::Untold),
     };
