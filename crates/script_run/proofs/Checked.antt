@@ -1,24 +1,23 @@
 -- A resume may go on from the memory of an image that was checked.
-use Rattle.std.proofs.Common.{◌≡◌, ℕ, ◌<◌, ◌≤◌, List, [], length, map, refl, sym, ap, ◌∙◌, subst, arith}
+use Rattle.std.proofs.Common.{◌≡◌, ℕ, ◌<◌, ◌≤◌, List, [], length, sym, ap, ◌∙◌, subst, arith}
 use Rattle.std.specs.Prelude.{slice_index}
 use Rattle.std.proofs.Math.ListN.{get_or-map}
 use Rattle.seq_object.specs.declared.history.RestartPoint.{RestartPoint}
 use Rattle.seq_object.specs.declared.settings.Settings.{Settings}
 use Rattle.seq_object.specs.declared.sizes.Sizes.{Sizes}
-use Rattle.seq_object.specs.Sizes.{sizes_of, thread_room}
-use Rattle.seq_object.specs.History.{Scripts, total, first_point, point_at}
+use Rattle.seq_object.specs.Sizes.{sizes_of}
+use Rattle.seq_object.specs.History.{Scripts, total, first_point}
 use Rattle.seq_object.proofs.Totals.{total_none, total-same}
 use Rattle.line_memory.specs.Line.{BankState, IsQuiet, bank_at, quiet_bank, all_write_backs}
-use Rattle.room_model.specs.Image.{ImageRooms, image_of, nothing_kept, epoch_at, recovered_room, Recovers, IsLawful}
+use Rattle.room_model.specs.Image.{ImageRooms, image_of, nothing_kept, epoch_at, Recovers, IsLawful}
 use Rattle.room_model.specs.MapRoom.{live_layout}
-use Rattle.room_model.specs.Rooms.{point_in}
 use Rattle.life_model.specs.Life.{Opening, script_of, opening_place}
 use Rattle.yard_laws.proofs.WriteBacks.{memory_counts}
 use Rattle.power_cut.specs.Cut.{quiet_memory}
 use Rattle.power_cut.proofs.Quiet.{image_of-quiet, quiet_memory-quiet}
 use Rattle.image_check.specs.declared.recovered.Recovered.{Recovered}
 use Rattle.image_check.specs.Recovered.{IsRecovered}
-use Rattle.script_run.specs.Jobs.{IsResumeOver, MayResume}
+use Rattle.script_run.specs.Jobs.{MayResume}
 
 -- such a memory has counted no write-back
 none_counted : (rooms : ImageRooms) → all_write_backs (quiet_memory rooms) ≡ 0

@@ -28,7 +28,7 @@ use Rattle.replay_laws.proofs.EndingsTold.{lengths_from}
 use Rattle.replay_progress.specs.Shown.{GoesOnRight}
 use Rattle.replay_progress.proofs.Refused.{refused_turn}
 use Rattle.replay_progress.proofs.Whole.{takeless_replay_ends, replay_ends, replay_closes_seldom}
-use Rattle.script_run.specs.Runs.{DriesKept, RunsOrDries}
+use Rattle.script_run.specs.Runs.{RunsOrDries}
 use Rattle.script_run.specs.Starts.{IsStartOf}
 use Rattle.script_run.specs.Ends.{TellsWant, Ends}
 use Rattle.script_run.specs.Enough.{EndsByRounds, EndsWhereEnough, ClosesFew}

@@ -1,10 +1,10 @@
 -- A recovery restores no more cells than there are lines, so its events and write-backs are few.
-use Rattle.std.proofs.Common.{◌≡◌, ℕ, zero, suc, ◌+◌, ◌*◌, ◌<◌, ◌≤◌, Bool, ◌==◌, length, sym, ap, ◌∙◌, subst, arith, if◌then◌else◌}
+use Rattle.std.proofs.Common.{◌≡◌, ℕ, zero, suc, ◌+◌, ◌*◌, ◌<◌, ◌≤◌, ◌==◌, ap, ◌∙◌, arith, if◌then◌else◌}
 use Rattle.std.proofs.Math.Nat.{mul-le-mul_left, suc-mul}
 use Rattle.std.proofs.lemmas.Bool.Decides.{nat_tests}
 use Rattle.std.proofs.lemmas.List.Sums.{count_by-le-length}
 use Rattle.seq_object.specs.declared.sizes.Sizes.{Sizes}
-use Rattle.seq_object.specs.Sizes.{AreValid, super_room, room_count, line_count, line_total}
+use Rattle.seq_object.specs.Sizes.{AreValid, super_room, line_count, line_total}
 use Rattle.seq_object.specs.History.{total}
 use Rattle.seq_object.proofs.Totals.{total-le}
 use Rattle.room_model.specs.Cell.{tag_of}

@@ -5,7 +5,7 @@ use Rattle.std.proofs.lemmas.Bool.{cases_lt}
 use Rattle.std.proofs.lemmas.List.{get_or_past, length-map}
 use Rattle.std.specs.FinMap.{entries, from_entries, get-entries, get-from_entries, same_map, nat_cmp-IsAntisymmetric}
 use Rattle.std.proofs.lemmas.Cmp.{nat_cmp_total}
-use Rattle.std.specs.List.{All, Contains}
+use Rattle.std.specs.List.{All}
 use Rattle.std.proofs.Math.ListN.{get_or-map}
 use mathlib.Core.Option.{some, some-injective}
 use lib.ListN.{get_elem?}
@@ -14,26 +14,24 @@ use Rattle.seq_object.specs.declared.settings.Settings.{Settings}
 use Rattle.seq_object.specs.Object.{Pairs}
 use Rattle.seq_object.specs.Sizes.{sizes_of, room_count, IsValid}
 use Rattle.seq_object.specs.History.{Scripts, total}
-use Rattle.seq_object.specs.declared.sizes.Sizes.{Sizes}
 use Rattle.seq_object.proofs.Totals.{total-same}
 use Rattle.line_memory.specs.Line.{BankState, bank_at, all_write_backs}
 use Rattle.room_model.specs.Image.{ImageRooms, image_of, nothing_kept, epoch_at}
 use Rattle.life_model.specs.declared.life.Life.{Life}
 use Rattle.life_model.specs.declared.life.Life.TheVariants.{Start, Resume}
 use Rattle.life_model.specs.declared.life.Mark.{Mark}
-use Rattle.life_model.specs.declared.life.Outcome.TheVariants.{Cut, Starved}
-use Rattle.life_model.specs.Life.{Opening, sizes, opening_place, script_of, reported}
+use Rattle.life_model.specs.declared.life.Outcome.TheVariants.{Starved}
+use Rattle.life_model.specs.Life.{Opening, sizes, opening_place, script_of}
 use Rattle.life_model.specs.Lives.{ResumesFrom}
 use Rattle.life_model.specs.Told.{ReportState, TellsOf}
 use Rattle.life_model.specs.Work.{torn_cells, recovery_write_backs}
 use Rattle.rooms.specs.declared.room.Room.{Room}
 use Rattle.rooms.specs.Rooms.{bank_of}
 use Rattle.yard_model.specs.declared.view.Beginning.{Beginning}
-use Rattle.yard_model.specs.Beginnings.{opening_of, sizes_at, recovery_marks, write_backs_at, IsBeginning}
-use Rattle.yard_model.specs.World.{dead}
+use Rattle.yard_model.specs.Beginnings.{opening_of, write_backs_at, IsBeginning}
 use Rattle.yard_model.specs.Lives.{IsMemoryOf, NamesDead}
 use Rattle.yard_laws.proofs.Beginning.{as_life, opens_lawful}
-use Rattle.room_yard.specs.World.{WorldState, memory_of, Opens, Begins, opening_yard}
+use Rattle.room_yard.specs.World.{WorldState, memory_of, Opens, opening_yard}
 use Rattle.plain_yard.specs.Shown.{ShownYard, opening_told, IsLawfulYard}
 use Rattle.power_cut.proofs.Counts.{line_total-few}
 use Rattle.rounds.proofs.Sums.{total-has}
@@ -48,9 +46,8 @@ use Rattle.recovery.proofs.Told.{few_counted}
 use Rattle.replay_model.specs.Endings.{IsReportOfYard, IsRecoveredResume}
 use Rattle.replay_laws.proofs.EndingsTold.{resume_is_told}
 use Rattle.worker_model.specs.Workers.{WorkerState}
-use Rattle.script_run.specs.declared.ending.Began.{Began}
 use Rattle.script_run.specs.Starts.{AreFirstWorkers}
-use Rattle.script_run.specs.Jobs.{IsResumeOver, MayResume, IsRecoveryOver, recovery_mark}
+use Rattle.script_run.specs.Jobs.{IsResumeOver, MayResume, recovery_mark}
 use Rattle.script_run.specs.Resumes.{IsOpenedBy, IsRunIn}
 use Rattle.script_run.proofs.FewTorn.{torn_few}
 use Rattle.script_run.proofs.Openings.{counted_alike}

@@ -13,7 +13,7 @@ use Rattle.seq_object.specs.declared.history.RestartPoint.{RestartPoint}
 use Rattle.seq_object.specs.declared.settings.Settings.{Settings}
 use Rattle.seq_object.specs.Sizes.{sizes_of, room_count}
 use Rattle.seq_object.specs.History.{Scripts, first_point, first_points, point_at}
-use Rattle.life_model.specs.Life.{Opening, start_of, script_of, opening_place, reported}
+use Rattle.life_model.specs.Life.{Opening, start_of, script_of, reported}
 use Rattle.restart_point.specs.declared.thread_end.ThreadEnd.{ThreadEnd}
 use Rattle.restart_point.specs.declared.thread_end.ThreadEnd.TheVariants.{Ready, Waits, Ended}
 use Rattle.rooms.specs.declared.room.Room.{Room}
@@ -23,7 +23,7 @@ use Rattle.yard_model.specs.declared.view.Grip.{Grip}
 use Rattle.yard_model.specs.Beginnings.{opening_of, sizes_at, recovery_marks, lengths_of, marks_of, write_backs_at}
 use Rattle.yard_model.specs.Opens.{opening_view}
 use Rattle.room_yard.specs.Told.{Told}
-use Rattle.room_yard.specs.World.{WorldState, Opens, Begins, beginning_with}
+use Rattle.room_yard.specs.World.{WorldState, Opens, beginning_with}
 use Rattle.plain_yard.specs.Shown.{opening_told}
 use Rattle.fresh_world.specs.Start.{AreLengths, start_beginning}
 use Rattle.worker_model.specs.declared.hand.Hand.{Hand}

@@ -15,10 +15,10 @@ use Rattle.life_model.specs.declared.life.Life.{Life}
 use Rattle.life_model.specs.declared.life.Life.TheVariants.{Start, Resume}
 use Rattle.life_model.specs.declared.life.Mark.{Mark}
 use Rattle.life_model.specs.declared.life.Outcome.{Outcome}
-use Rattle.life_model.specs.declared.life.Outcome.TheVariants.{Finished, Stalled, Cut, Starved}
+use Rattle.life_model.specs.declared.life.Outcome.TheVariants.{Cut, Starved}
 use Rattle.life_model.specs.Life.{Opening, sizes, lengths, closings}
 use Rattle.life_model.specs.Told.{ReportState, TellsOf}
-use Rattle.life_model.specs.Work.{NamesAll, OffersRounds, turns_for_rounds}
+use Rattle.life_model.specs.Work.{OffersRounds, turns_for_rounds}
 use Rattle.epoch_word.specs.declared.stage.EpochStage.{EpochStage}
 use Rattle.epoch_word.specs.declared.stage.EpochStage.TheVariants.{Before, Stored, AskedFor, InMemory}
 use Rattle.rooms.specs.declared.room.Room.{Room}

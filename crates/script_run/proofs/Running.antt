@@ -5,7 +5,7 @@ use Rattle.std.specs.declared.alloc.AllocError.{AllocError}
 use Rattle.std.proofs.lemmas.List.{take_more, take-append-drop}
 use Rattle.std.proofs.lemmas.Option.{none-some, same_Some, slice_get_within, get_or_from_slice_get}
 use Rattle.worker_model.specs.declared.hand.Turn.{Turn}
-use Rattle.replay_model.specs.Replays.{ReplayState, is_over_in, TurnOf, Runs, RunsDry}
+use Rattle.replay_model.specs.Replays.{ReplayState, is_over_in, TurnOf, RunsDry}
 use Rattle.replay_model.specs.Kept.{IsReplay}
 use Rattle.replay_progress.specs.Runs.{RunsKept}
 use Rattle.replay_progress.proofs.Runs.{kept_runs, kept_run_goes_on, kept_run_stays}

@@ -4,11 +4,10 @@ use Rattle.seq_object.specs.declared.settings.Settings.{Settings}
 use Rattle.seq_object.specs.History.{Scripts}
 use Rattle.line_memory.specs.Line.{BankState, all_write_backs}
 use Rattle.life_model.specs.declared.life.Mark.{Mark}
-use Rattle.life_model.specs.Life.{Opening, reported}
+use Rattle.life_model.specs.Life.{Opening}
 use Rattle.life_model.specs.Told.{ReportState, is_resume}
 use Rattle.yard_model.specs.declared.view.Beginning.{Beginning}
-use Rattle.yard_model.specs.declared.view.Checkpoint.{Checkpoint}
-use Rattle.yard_model.specs.Beginnings.{opening_of, recovery_marks}
+use Rattle.yard_model.specs.Beginnings.{opening_of}
 use Rattle.room_yard.specs.Told.{Told}
 use Rattle.room_yard.specs.World.{WorldState, Opens, Begins, beginning_with}
 use Rattle.plain_yard.specs.Shown.{ShownYard, opening_told}

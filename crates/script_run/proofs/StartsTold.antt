@@ -4,9 +4,8 @@ use Rattle.seq_object.specs.declared.settings.Settings.{Settings}
 use Rattle.seq_object.specs.History.{Scripts}
 use Rattle.line_memory.specs.Line.{BankState}
 use Rattle.room_model.specs.Image.{ImageRooms}
-use Rattle.life_model.specs.declared.life.Life.{Life}
 use Rattle.life_model.specs.declared.life.Life.TheVariants.{Start, Resume}
-use Rattle.life_model.specs.Life.{Opening, start_of}
+use Rattle.life_model.specs.Life.{start_of}
 use Rattle.life_model.specs.Told.{ReportState, TellsOf}
 
 no_resume : {A : Type 0} → Start ≡ Resume → A

@@ -1,5 +1,5 @@
 -- The first turns of a resume.
-use Rattle.std.specs.Prelude.{◌≡◌, ◌≢◌, ℕ, ◌+◌, ◌⊎◌, length}
+use Rattle.std.specs.Prelude.{◌≡◌, ℕ, ◌+◌, ◌⊎◌, length}
 use Rattle.script_text.specs.Program.{Turns}
 use Rattle.script_text.specs.Schedules.{schedule_of}
 use Rattle.turn_order.specs.Orders.{OrderState}

@@ -1,6 +1,6 @@
 //! Resumes over the images of cuts, with reports that were worked out by hand.
 
-ghost use Rattle.std.specs.Prelude.{◌≡◌};
+ghost use Rattle.std.specs.Prelude.{IfSome};
 ghost use Rattle.script_text.specs.Program.{program_of, turns_of};
 ghost use Rattle.script_text.specs.Text.{HasText};
 ghost use Rattle.script_run.specs.Jobs.{IsReady};
@@ -69,19 +69,21 @@ fn started(rt: &impl Abort, alloc: Global, turns: u32, keep: &Choice) -> Left
     }
 }
 
-/// The memory of an image from which the script may be resumed, which it is made sure that it may.
-fn ready(rt: &impl Abort, alloc: Global, script: &Script, image: Image) -> Memory
-    requires script { HasText (program_of script.now) }
-    requires whole { IsWhole image }
-    ensures { IsReady Resume script.now.settings (program_of script.now).threads result }
+/// The memory of an image from which a script of one thread may be resumed, and none where it may not.
+fn ready(alloc: Global, script: &Script, image: Image) -> Option<Memory>
+    requires { IsWhole image }
+    ensures { IfSome result (λ memory. IsReady Resume script.now.settings (program_of script.now).threads memory) }
 {
-    let found = check_image(alloc, &image).expect(rt, "a lawful image");
-    assert!(rt; image.sizes() == script.settings.sizes() && found.epoch < 4278190080);
-    assert!(rt;
-        script.settings.threads == 1 && script.threads.len() == 1 && found.positions.len() == 1
-    );
-    assert!(rt; found.positions[0] <= script.threads[0].len() as u64);
-    image_memory(alloc, image).expect(rt, "memory")
+    let found = check_image(alloc, &image).ok()?;
+    let place = *found.positions.first()?;
+    let commands = script.threads.first()?.len() as u64;
+    if image.sizes() != script.settings.sizes() {
+        return None;
+    }
+    if script.settings.threads != 1 || found.epoch >= 4278190080 || place > commands {
+        return None;
+    }
+    image_memory(alloc, image).ok()
 }
 
 /// What a resume of the script from an image leaves.
@@ -90,7 +92,7 @@ fn resumed(rt: &impl Abort, alloc: Global, image: Image, turns: u32, keep: &Choi
     ensures { IsWhole result.image }
 {
     let script = one_put(rt, alloc, turns);
-    let mut memory = ready(rt, alloc, &script, image);
+    let mut memory = ready(alloc, &script, image).expect(rt, "a memory that is ready");
     let report = replay_job(alloc, &script, Life::Resume, &mut memory).expect(rt, "memory");
     Left {
         report,

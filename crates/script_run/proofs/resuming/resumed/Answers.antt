@@ -9,7 +9,6 @@ use Rattle.life_model.specs.Told.{ReportState}
 use Rattle.epoch_word.specs.declared.stage.EpochStage.TheVariants.{InMemory}
 use Rattle.plain_yard.specs.Opening.{commands_in}
 use Rattle.recovery.specs.Recovering.{epoch_by_load}
-use Rattle.recovery.specs.Told.{bare_report}
 use Rattle.script_text.specs.declared.script.Script.{Script}
 use Rattle.script_text.specs.Program.{program_of, turns_of}
 use Rattle.script_text.specs.ReportText.{report_of}

@@ -4,9 +4,8 @@ use Rattle.seq_object.specs.declared.command.Command.{Command}
 use Rattle.room_yard.specs.World.{WorldState}
 use Rattle.plain_yard.specs.Shown.{ShownYard}
 use Rattle.script_text.specs.declared.script.Script.{Script}
-use Rattle.script_text.specs.Program.{program_of, turns_of}
+use Rattle.script_text.specs.Program.{program_of}
 use Rattle.script_text.specs.ReportText.{report_of}
-use Rattle.script_text.specs.Schedules.{schedule_of}
 use Rattle.script_run.proofs.RunsIn.{IsYardOf, first_replay, first_none_done, told_so, is_run_in}
 use Rattle.script_run.proofs.resuming.run_in.Goals as goal
 

@@ -1,4 +1,4 @@
-use Rattle.std.proofs.Common.{◌≡◌, ◌≤◌, length, refl, sym, ap, subst}
+use Rattle.std.proofs.Common.{◌≡◌, ◌≤◌, length, sym, ap, subst}
 use Rattle.std.specs.Prelude.{vec_capacity}
 use Rattle.plain_yard.specs.Shown.{ShownYard, NoneHolds}
 use Rattle.replay_model.specs.Replays.{ReplayState}

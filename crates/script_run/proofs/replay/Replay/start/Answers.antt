@@ -1,10 +1,7 @@
-use Rattle.std.proofs.Common.{◌^◌, ◌≡◌, ℕ, List, map, refl, ◌∙◌, arith}
-use Rattle.std.specs.Prelude.{replicate}
+use Rattle.std.proofs.Common.{◌^◌, List, map, refl, ◌∙◌, arith}
 use Rattle.std.specs.Global.{Vec}
 use Rattle.seq_object.specs.declared.command.Command.{Command}
-use Rattle.life_model.specs.Life.{Opening, start_of}
-use Rattle.room_yard.specs.World.{Opens}
-use Rattle.yard_model.specs.Beginnings.{opening_of}
+use Rattle.life_model.specs.Life.{start_of}
 use Rattle.fresh_world.specs.Start.{start_beginning}
 use Rattle.script_run.proofs.Openings.{HasOpened, lengths_are, start_places, start_counts, is_start, is_replay, goes_on_right, none_done}
 use Rattle.script_run.proofs.replay.Replay.start.Goals as goal
