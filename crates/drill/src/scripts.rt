@@ -20,8 +20,8 @@ use store_order::Choice;
 const THREADS: u32 = 4;
 /// How many commands each of them has.
 const COMMANDS: u32 = 200;
-/// The life that has turns enough to finish.
-const LAST_LIFE: u32 = 8;
+/// The number of the last life, which has turns enough to finish.
+pub const LAST_LIFE: u32 = 8;
 
 /// The script of a life of a drill: `n` is the drill's number, and `life` the life's, from 0 to 8. Want of memory is the one refusal.
 pub fn drill_script(alloc: Global, n: u64, life: u32) -> Result<Script, AllocError>
@@ -75,7 +75,7 @@ fn turns_in(n: u64, life: u32) -> Mode
 }
 
 /// What the cut behind a life keeps.
-fn keep_behind(n: u64, life: u32) -> Choice
+pub fn keep_behind(n: u64, life: u32) -> Choice
     requires { life ≤ 8 }
     ensures { result ≡ drill_choice n life }
 {

@@ -2,9 +2,10 @@
 
 ghost use Rattle.std.specs.Prelude.{◌<◌, ◌^◌, sum, IfOk};
 
-use crate::{Summary, drill_script, summary_of, summary_text};
+use crate::{Summary, drill_script, run_drill, summary_of, summary_text};
 use image_check::Recovered;
 use life_model::Outcome;
+use line_memory::Memory;
 use script_text::{Mode, Script};
 use seq_object::{Command, Pair};
 use std::alloc::{AllocError, Global};
@@ -135,5 +136,28 @@ fn the_text_of_a_summary(rt: HostRuntime) -> Result<(), Fail> {
     let wanted =
         "drill 18446744073709551615\nlives 9\nkept 800\nepoch 131\npairs 61\nitems 9\nsum 0\nend cut\n";
     assert_eq!(rt; text.as_slice(), wanted.as_bytes());
+    Ok(())
+}
+
+/// The text of the summary of a drill.
+fn drilled(alloc: Global, n: u64) -> Result<Vec<u8>, AllocError> {
+    let mut memory = Memory::empty(alloc);
+    let summary = run_drill(alloc, n, &mut memory)?;
+    summary_text(alloc, &summary)
+}
+
+#[test]
+fn drill_1_keeps_all_commands(rt: HostRuntime) -> Result<(), Fail> {
+    let text = drilled(rt.alloc(), 1)?;
+    assert!(rt; text.starts_with(b"drill 1\nlives 9\nkept 800\nepoch "));
+    assert!(rt; text.ends_with(b"\nend finished\n"));
+    Ok(())
+}
+
+#[test]
+fn a_drill_goes_the_same_way_again(rt: HostRuntime) -> Result<(), Fail> {
+    let text = drilled(rt.alloc(), 1)?;
+    let again = drilled(rt.alloc(), 1)?;
+    assert_eq!(rt; text.as_slice(), again.as_slice());
     Ok(())
 }

@@ -1,0 +1,7 @@
+use Rattle.power_cut.specs.Image.{sizes_in, rooms_in, AreWhole}
+use Rattle.drill.proofs.LifeCalls.{of_lawful}
+use Rattle.drill.proofs.lives.remade.Goals as goal
+
+pub image_memory-requires : goal.image_memory-requires
+image_memory-requires c =
+    of_lawful (AreWhole (sizes_in c.in_ok-image.image) (rooms_in c.in_ok-image.image)) c.settings.result c.args.left.now c.settings.ensures c.requires.lawful (c.in_ok-image.ensures).whole

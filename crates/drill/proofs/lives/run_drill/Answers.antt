@@ -1,0 +1,10 @@
+use Rattle.room_model.specs.Image.{nothing_kept}
+use Rattle.drill.proofs.NextLives.{lived_lawful}
+use Rattle.drill.proofs.LifeCalls.{positions_few}
+use Rattle.drill.proofs.lives.run_drill.Goals as goal
+
+pub recovered-requires : goal.recovered-requires
+recovered-requires c = lived_lawful c.args.n 8 c.in_ok-outcome.outcome c.live_all.new.memory nothing_kept (c.in_ok-outcome.ensures).lived
+
+pub summary_of-requires : goal.summary_of-requires
+summary_of-requires c = positions_few c.args.n 8 c.in_ok-outcome.outcome c.live_all.new.memory c.in_ok-found.found (c.in_ok-outcome.ensures).lived (c.in_ok-found.ensures)
