@@ -1,0 +1,5 @@
+pub mod Balances
+pub mod Beginnings
+pub mod Cuts
+pub mod Going
+pub mod Transfers

@@ -1,0 +1,12 @@
+use Rattle.std.proofs.Common.{◌≡◌}
+use Rattle.account_store.specs.Accounts.{balances, settled, events_left}
+use Rattle.account_store.proofs.store.AccountStore.finish.Given as goal
+
+abbrev pub invariant-loop : goal.invariant-loop
+invariant-loop l = record {
+  same : balances l.self ≡ balances l.fn.self;
+  later : settled l.self ≡ settled l.fn.self;
+}
+
+abbrev pub decreases-loop : goal.decreases-loop
+decreases-loop l = events_left l.self
