@@ -1,5 +1,5 @@
 -- What a handle remembers is right behind each step, and what is told of the step is its answer.
-use Rattle.std.proofs.Common.{◌≡◌, ◌≢◌, ℕ, ◌+◌, ◌^◌, ◌<◌, ◌≤◌, ◌||◌, nat_le, Bool, true, false, inl, inr, ⊎_elim, List, [], ◌∷◌, ◌++◌, length, sym, refl, ap, ◌∙◌, subst, arith, Option, Some, None}
+use Rattle.std.proofs.Common.{◌≡◌, ℕ, ◌+◌, ◌^◌, ◌<◌, ◌||◌, nat_le, Bool, true, inl, ⊎_elim, List, [], ◌∷◌, ◌++◌, length, sym, refl, ap, ◌∙◌, subst, arith, Option, Some, None}
 use Rattle.std.proofs.lemmas.List.{length-append}
 use Rattle.atomic_table.specs.Table.{rest}
 use Rattle.restart_point.specs.declared.thread_end.ThreadEnd.{ThreadEnd}
@@ -18,7 +18,7 @@ use Rattle.yard_model.specs.Entries.{placed}
 use Rattle.yard_model.specs.Knows.{sizes_known}
 use Rattle.yard_model.specs.Steps.{checkpoint_at}
 use Rattle.yard_model.specs.Shares.{own_mark}
-use Rattle.yard_model.specs.Views.{grip_on, gripped, freed, retreated, left_in, stood, with_drawn, drew, claimed, entries_noted, released, looked, saw_power, ticked, turned_off}
+use Rattle.yard_model.specs.Views.{grip_on, gripped, freed, retreated, left_in, stood, with_drawn, drew, claimed, entries_noted, looked, saw_power, ticked, turned_off}
 use Rattle.yard_model.specs.Conditions.{MayLeave, MayClaim, MayRelease}
 use Rattle.room_yard.specs.Calls.{room_held, MayTryLeave, MayTryClaim, ForbidsClaim, MayEndEpoch}
 use Rattle.room_yard.specs.Answers.{next_word, ClaimRests, Locked, Unlocked, Retreated, Drew, Stood, SawPower}

@@ -2,3 +2,8 @@ pub mod Seated
 pub mod Steps
 pub mod Owed
 pub mod Hands
+pub mod Parting
+pub mod Emptying
+pub mod Openings
+pub mod Dealing
+pub mod Endings

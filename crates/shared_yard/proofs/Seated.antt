@@ -1,24 +1,24 @@
 -- A step of one thread leaves every thread at its seat, with its view and its own checkpoints.
-use Rattle.std.proofs.Common.{◌≡◌, ◌≢◌, ℕ, zero, suc, ◌+◌, ◌==◌, eqb, eq-eqb, ne_eqb, if◌then◌else◌, Bool, true, false, List, [], ◌∷◌, ◌++◌, map, length, set, sym, refl, ap, ◌∙◌, subst, arith, Option, Some}
+use Rattle.std.proofs.Common.{◌≡◌, ◌≢◌, ℕ, suc, ◌+◌, eqb, eq-eqb, ne_eqb, if◌then◌else◌, Bool, true, false, List, [], ◌∷◌, ◌++◌, length, set, sym, refl, ap, ◌∙◌, subst, arith, Option, Some}
 use Rattle.std.proofs.lemmas.List.{map-append, length-map}
 use mathlib.Core.Option.{some}
 use mathlib.Core.Option as maybe
 use lib.ListN.{get_elem?}
 use Rattle.seq_object.specs.declared.history.Entry.{Entry}
+use Rattle.restart_point.specs.ArrivalWord.{arrival_of}
 use Rattle.rooms.specs.declared.room.Room.{Room}
 use Rattle.yard_model.specs.declared.view.Beginning.{Beginning}
 use Rattle.yard_model.specs.declared.view.View.{View}
+use Rattle.yard_model.specs.declared.view.Look.{Look}
 use Rattle.yard_model.specs.declared.view.Checkpoint.{Checkpoint}
 use Rattle.yard_model.specs.declared.view.OwnMark.{OwnMark}
-use Rattle.yard_model.specs.Beginnings.{first_epoch, epoch_now}
-use Rattle.yard_model.specs.World.{YardState}
+use Rattle.yard_model.specs.Beginnings.{first_epoch, epoch_now, is_over}
 use Rattle.yard_model.specs.Lawful.{Lawful}
-use Rattle.yard_model.specs.Steps.{checkpoint_at}
 use Rattle.yard_model.specs.Shares.{Release, checkpoints_of, own_mark, own_from, AreOwnOf}
 use Rattle.yard_laws.proofs.Lists.{each_set, set_here, set_else, at_inside}
 use Rattle.room_yard.specs.Told.{Told, IsTold}
 use Rattle.shared_yard.specs.declared.known.Known.{Known}
-use Rattle.shared_yard.specs.Rule.{TableState, home_of, yard_of, Each, SitsAt, AreSeated, IsLawfulTable, with_view_of}
+use Rattle.shared_yard.specs.Rule.{TableState, yard_of, Each, SitsAt, AreSeated, SawOver, IsLawfulTable, with_view_of}
 
 pub Each-weaker : {A : Type 0} (P Q : A → Type 0) → ((x : A) → P x → Q x) → (l : List A) → Each P l → Each Q l
 Each-weaker P Q f [] a = tt
@@ -63,10 +63,20 @@ module _ (s : TableState) (l : IsLawfulTable s) (id : ℕ) (k : Known) (at : get
   is_other : (j : ℕ) (u : Known) → j ≢ id → SitsAt l.views l.releases l.seat_of j u → u.view.thread ≢ k.view.thread
   is_other j u n t p = n (sym t.sits ∙ (ap l.seat_of p ∙ here.sits))
 
+  -- the life that each thread knows
+  same_life : l.beginning ≡ k.view.beginning
+  same_life = sym (l.lawful.sized.beginnings k.view.thread k.view here.view)
+
+  -- what the thread saw before
+  pub saw_before : (w : View) → w.beginning ≡ k.view.beginning → w.look ≡ k.view.look → SawOver w → is_over w.beginning (checkpoints_of l.releases) ≡ true
+  saw_before w begins look saw = ap (λ (b : Beginning). is_over b (checkpoints_of l.releases)) (begins ∙ sym same_life)
+      ∙ l.seen k.view.thread k.view here.view (record { word = ap (λ (q : Look). q.word) (sym look) ∙ saw.word; shown = ap (λ (q : Look). (arrival_of q.found).over) (sym look) ∙ saw.shown })
+
   -- a step of this thread
   pub reseat : (w : View) (ws : List ℕ) (hs : List (maybe.Option (Option Room))) (h : List Entry) → w.thread ≡ k.view.thread → w.beginning ≡ k.view.beginning
+      → (SawOver w → is_over w.beginning (checkpoints_of l.releases) ≡ true)
       → Lawful w.beginning (yard_of ws hs (now_views w)) h (checkpoints_of l.releases) → IsLawfulTable (record { words = ws; homes = hs; views = set s.views id (with_view_of k w ∷ []) })
-  reseat w ws hs h same begins lawful = record {
+  reseat w ws hs h same begins saw lawful = record {
     beginning = w.beginning;
     views = now_views w;
     history = h;
@@ -89,13 +99,16 @@ module _ (s : TableState) (l : IsLawfulTable s) (id : ℕ) (k : Known) (at : get
               (λ u t. record { view = set_else l.views k.view.thread u.view.thread w (is_other j u n t) ∙ t.view; own = t.own; sits = t.sits }) ks old.0,
           old.1,
         ));
+    seen = each_set (λ (j : ℕ) (u : View). SawOver u → is_over w.beginning (checkpoints_of l.releases) ≡ true) l.views k.view.thread w saw
+        (λ j u n e t. ap (λ (b : Beginning). is_over b (checkpoints_of l.releases)) (begins ∙ sym same_life) ∙ l.seen j u e t);
   }
 
-  -- and one that adds a checkpoint of it
+  -- and one that adds a checkpoint of it, where the life is not over
   pub rerelease : (w : View) (c : Checkpoint) (ws : List ℕ) (epoch : ℕ) → epoch ≡ epoch_now k.view.beginning (checkpoints_of l.releases) + 1 → w.thread ≡ k.view.thread → w.beginning ≡ k.view.beginning
+      → w.look ≡ k.view.look → (is_over k.view.beginning (checkpoints_of l.releases) ≡ true → ⊥)
       → Lawful w.beginning (yard_of ws s.homes (now_views w)) l.history (checkpoints_of l.releases ++ c ∷ [])
       → IsLawfulTable (record { words = ws; homes = s.homes; views = set s.views id (record { view = w; own = k.own ++ own_mark epoch c ∷ [] } ∷ []) })
-  rerelease w c ws epoch is same begins lawful = record {
+  rerelease w c ws epoch is same begins look goes_on lawful = record {
     beginning = w.beginning;
     views = now_views w;
     history = l.history;
@@ -122,6 +135,9 @@ module _ (s : TableState) (l : IsLawfulTable s) (id : ℕ) (k : Known) (at : get
               }) ks old.0,
           old.1,
         ));
+    seen = each_set (λ (j : ℕ) (u : View). SawOver u → is_over w.beginning (checkpoints_of more) ≡ true) l.views k.view.thread w
+        (λ t. absurd (goes_on (ap (λ (b : Beginning). is_over b (checkpoints_of l.releases)) (sym begins) ∙ saw_before w begins look t)))
+        (λ j u n e t. absurd (goes_on (ap (λ (b : Beginning). is_over b (checkpoints_of l.releases)) (sym same_life) ∙ l.seen j u e t)));
   }
     where
       more : List Release

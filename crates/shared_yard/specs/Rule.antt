@@ -1,14 +1,16 @@
 -- The rule of the table: its words and slots, and the views at its seats, make a lawful yard.
-use Rattle.std.specs.Prelude.{◌≡◌, ◌≢◌, ℕ, zero, suc, List, [], ◌∷◌, map, Option, Some, None}
+use Rattle.std.specs.Prelude.{◌≡◌, ◌≢◌, ℕ, zero, suc, true, List, [], ◌∷◌, map, Option, None}
 use mathlib.Core.Option.{some, none}
 use mathlib.Core.Option as maybe
 use lib.ListN.{get_elem?}
 use Rattle.atomic_table.specs.Table.{State}
 use Rattle.seq_object.specs.declared.history.Entry.{Entry}
 use Rattle.life_model.specs.declared.life.Life.TheVariants.{Start}
+use Rattle.restart_point.specs.ArrivalWord.{arrival_of}
 use Rattle.rooms.specs.declared.room.Room.{Room}
 use Rattle.yard_model.specs.declared.view.Beginning.{Beginning}
 use Rattle.yard_model.specs.declared.view.View.{View}
+use Rattle.yard_model.specs.Beginnings.{is_over}
 use Rattle.yard_model.specs.World.{YardState}
 use Rattle.yard_model.specs.Lawful.{Lawful}
 use Rattle.yard_model.specs.Opens.{opening_view}
@@ -51,7 +53,13 @@ AllApart (k ∷ ks) = Each (AreApart k) ks × AllApart ks
 abbrev pub AreSeated : List View → List Release → (ℕ → ℕ) → ℕ → List Known → Type 0
 AreSeated views releases seat_of seat ks = Each (SitsAt views releases seat_of seat) ks × AllApart ks
 
--- the rule: with some history and released checkpoints, each with its thread, the yard is lawful, and each seat has what its threads know
+-- a thread's last look found an arrival word that shows the life over
+pub record SawOver (v : View) : Type 0 where
+  pub word : v.look.word ≡ 2
+  pub shown : (arrival_of v.look.found).over ≡ true
+
+-- the rule: with some history and released checkpoints, each with its thread, the yard is lawful, each seat has what its threads know, and
+-- where a thread saw that the life is over it is
 pub record IsLawfulTable (s : TableState) : Type 0 where
   pub beginning : Beginning
   pub views : List View
@@ -60,6 +68,7 @@ pub record IsLawfulTable (s : TableState) : Type 0 where
   pub seat_of : ℕ → ℕ
   pub lawful : Lawful beginning (yard_of s.words s.homes views) history (checkpoints_of releases)
   pub seated : (seat : ℕ) (ks : List Known) → get_elem? s.views seat ≡ some ks → AreSeated views releases seat_of seat ks
+  pub seen : (i : ℕ) (v : View) → get_elem? views i ≡ some v → SawOver v → is_over beginning (checkpoints_of releases) ≡ true
 
 -- what so many threads know as a life opens, the first of them thread i: their opening views, and no checkpoint
 abbrev pub opening_from : Beginning → ℕ → ℕ → List Known

@@ -2,7 +2,8 @@
 //!
 //! The tick word, the clock, the arrival word and a lock for each room are atomic words of one table, and each room lies in a slot of
 //! it, which the holder of the room's lock alone moves. A thread has a seat at the table. A `SharedPost` is a thread's handle: it has the
-//! seat, and remembers of the thread's view what its calls answer. No call waits, and none takes memory.
+//! seat, and remembers of the thread's view what its calls answer. No call of a handle waits, and none takes memory. A yard is made of a
+//! world, with a seat for each thread; once all seats are back it leaves a world again, and that takes no memory either.
 //!
 //! Each call is one atomic step of the yard, beside loads. What a step finds, and what it makes of the thread's own view:
 //!
@@ -25,25 +26,41 @@
 //! Between any two steps of any threads the table keeps one rule (specs/`Rule`): with some history and some released checkpoints, its
 //! words, its slots and the views at its seats make a lawful yard, and each seat has the views and the own checkpoints of its threads.
 //! Which checkpoint is whose stands here alone, beside the views. A lock that is taken names its holder, so who takes a room out of a
-//! slot has it alone.
+//! slot has it alone. And where a thread's last look found that the life is over, it is over.
 //!
-//! A contract sees a thread's view and its own checkpoints; it is not told the yard's state, which other threads change at any time.
+//! A contract sees a thread's view and its own checkpoints; it is not told the yard's state, which other threads change at any time. A
+//! handle's type names its yard, so that what comes out of a handle is a seat of that yard.
 //!
 //! Proved here: `SharedPost` keeps every contract of `Post`, each call by the law of its step, and none of it asks what other threads do
 //! meanwhile. So a lock gives a room with all of the thread's own entries for it, each once and in order, free, and standing by its
 //! loads for what its history leaves; `Held` and `Rest` come with the word that a look of that call found; a draw answers the place of
-//! its entry in the one history; and `powered` gives false exactly at the limit. Not here yet: that a yard is made of a world, with a seat
-//! for each thread, and leaves one at its end. So no handle can be made outside of this crate.
+//! its entry in the one history; and `powered` gives false exactly at the limit. `new` makes a yard of any world with which a life may
+//! open, in which each seat knows what its thread knows then, or gives the world back as it was. `close` leaves a world whose memory, two
+//! words and numbers of rooms given back in mid-work are those of a lawful last state, in which each seat's view and own checkpoints stand.
+//! Only tested: that memory suffices, and that two threads may share a yard.
 #![tactic(auto)]
 
+mod close;
+mod emptied;
 mod known;
+mod name;
+mod opening;
 mod plays;
 mod post;
 mod rule;
+mod seat;
+mod shares;
+mod start;
 mod word;
 mod yard;
 
 pub use known::Known;
+pub use name::YardName;
 pub use post::SharedPost;
 pub use rule::{TableSeat, YardKey, YardRule, YardTable};
+pub use seat::YardSeat;
+pub use start::NoYard;
 pub use yard::SharedYard;
+
+#[cfg(test)]
+mod tests;

@@ -7,22 +7,27 @@ ghost use Rattle.room_yard.specs.Answers.{Drew as DrewAnswer};
 ghost use Rattle.shared_yard.specs.Rule.{one_known, one_view};
 ghost use Rattle.shared_yard.specs.Plays.{IsNow};
 ghost use Rattle.shared_yard.specs.Hands.{IsHand};
+ghost use Rattle.shared_yard.specs.Seats.{IsSeatOf, known_at};
+ghost use Rattle.shared_yard.specs.Names.{AreOfYard, IsSeatAt};
 
+use crate::name::YardName;
 use crate::plays::{
     Claim, Draw, Drawn, Leave, Lock, Look, Note, Off, Power, Release, Retreat, Stand, Tick, Unlock,
 };
 use crate::rule::TableSeat;
+use crate::seat::YardSeat;
 use crate::word::{allows_claim, allows_leave, word_of_epoch};
 use crate::yard::SharedYard;
 use life_model::Mark;
 use restart_point::{Arrival, ThreadEnd};
 use room_yard::{Held, HoldsLock, Post, Rest};
 use seq_object::Entry;
-use std::marker::Brand;
+use std::marker::{Brand, PhantomData};
 use yard_model::{Phase, Room};
 
-/// A thread's handle on a yard that it shares. It has the thread's seat at the table, and remembers of its view what its calls answer.
-pub struct SharedPost<'a> {
+/// A thread's handle on a yard that it shares, which the type names. It has the thread's seat at the table, and remembers of its view what
+/// its calls answer.
+pub struct SharedPost<'a, N: YardName> {
     yard: &'a SharedYard,
     seat: TableSeat,
     thread: u32,
@@ -33,6 +38,8 @@ pub struct SharedPost<'a> {
     ran: u32,
     /// Whether it saw the power off.
     off: bool,
+    of: PhantomData<N>,
+    ghost named: { AreOfYard yard.now N.table N.beginning },
     ghost seated: { seat.table_id ≡ yard.now.table.shared.table_id },
     ghost hand: { IsHand seat.me yard.now.beginning thread phase room ran off },
 }
@@ -49,7 +56,7 @@ fn draw_as<D: Drawn>(yard: &SharedYard, seat: &mut TableSeat, entry: Entry) -> u
     yard.table.shared.fetch_add::<Draw<D>>(seat, 1, 1)
 }
 
-impl Post for SharedPost<'_> {
+impl<N: YardName> Post for SharedPost<'_, N> {
     ghost use Rattle.std.specs.Prelude.{Some, None};
     ghost use Rattle.shared_yard.specs.Rule.{one_known, one_view};
 
@@ -197,5 +204,60 @@ impl Post for SharedPost<'_> {
             .shared
             .fetch_max::<Off>(&mut self.seat, 0, 1 << 63);
         self.off = true;
+    }
+}
+
+impl<N: YardName> SharedPost<'_, N> {
+    /// The thread's seat. It takes no memory.
+    pub fn into_seat(self) -> YardSeat
+        ensures of { IsSeatAt N.table N.beginning result }
+        ensures known { known_at result ≡ one_known self.entry.seat.me.0 }
+    {
+        let SharedPost {
+            yard: _,
+            seat,
+            thread,
+            phase,
+            room,
+            ran,
+            off,
+            of: _,
+        } = self;
+        YardSeat {
+            seat,
+            thread,
+            phase,
+            room,
+            ran,
+            off,
+        }
+    }
+}
+
+impl SharedYard {
+    /// The handle of the thread of a seat of this yard, which `N` names. It takes no memory.
+    pub fn post<N: YardName>(&self, seat: YardSeat) -> SharedPost<'_, N>
+        requires named { AreOfYard self.now N.table N.beginning }
+        requires seat { IsSeatOf self.now seat }
+        ensures known { one_known result.seat.me.0 ≡ known_at seat }
+    {
+        let YardSeat {
+            seat,
+            thread,
+            phase,
+            room,
+            ran,
+            off,
+        } = seat;
+        SharedPost {
+            yard: self,
+            seat,
+            thread,
+            phase,
+            room,
+            ran,
+            off,
+            of: PhantomData,
+        }
     }
 }
