@@ -1,9 +1,8 @@
 -- Counts that a choice of a sample keeps.
-use Rattle.std.proofs.Common.{◌≡◌, ℕ, zero, suc, ◌+◌, ◌-◌, ◌<◌, ◌≤◌, true, List, [], ◌∷◌, length, slice_index, replicate, ap, sym, ◌∙◌, refl, subst, arith, Some, None, below_more}
+use Rattle.std.proofs.Common.{◌≡◌, ℕ, suc, ◌+◌, ◌-◌, ◌<◌, ◌≤◌, true, List, [], ◌∷◌, length, slice_index, ap, sym, ◌∙◌, arith, Some, None, below_more}
 use Rattle.line_memory.specs.Line.{line_at}
 use Rattle.room_model.specs.Image.{surviving_lines}
 use Rattle.store_order.specs.declared.choice.Choice.{Choice}
-use Rattle.store_order.specs.declared.choice.Choice.TheVariants.{Nothing, All, Seed}
 use Rattle.store_order.specs.Choice.{kept_by, kept_of}
 use Rattle.store_order.proofs.Leaving.{kept_by-le}
 use Rattle.crash_explorer.specs.Cut.{Cut, AreWithin, pending_of, by_counts, is_right, is_allowed, IsVerdict}
@@ -34,29 +33,6 @@ kept-right steps cut choice ks kept =
     let left : surviving_lines (by_counts ks) 0 cut.lines ≡ surviving_lines (kept_of choice 0 cut.lines) 0 cut.lines =
     left_of-own ks cut.lines w ∙ sym (left_of-counts (kept_of choice 0 cut.lines) 0 ks cut.lines w each) in
     ap (λ (words : List (List ℕ)). is_allowed cut.allows (cut.recovered steps words)) left
-
--- nothing is kept
-pub nothing-kept : (seeds ms ks : List ℕ) → ks ≡ replicate (length ms) 0 → AreKeptBy (sample seeds 0) ms ks
-nothing-kept seeds ms ks is = subst (AreKeptBy Nothing ms) (sym is) (record { many = of (length ms); each = λ i lt. at (length ms) i })
-  where
-    of : (n : ℕ) → length {A = ℕ} (replicate n 0) ≡ n
-    of zero = refl
-    of (suc n) = ap suc (of n)
-
-    at : (n i : ℕ) → slice_index (replicate n 0) i ≡ 0
-    at zero i = refl
-    at (suc n) zero = refl
-    at (suc n) (suc i) = at n i
-
--- all is kept
-pub all-kept : (seeds ms ks : List ℕ) → ks ≡ ms → AreKeptBy (sample seeds 1) ms ks
-all-kept seeds ms ks is = subst (AreKeptBy All ms) (sym is) (record { many = refl; each = λ i lt. refl })
-
--- what a seed draws is kept
-pub seed-kept : (seeds ms ks : List ℕ) (j : ℕ) → 2 ≤ j → AreKeptBy (Seed (slice_index seeds (j - 2))) ms ks → AreKeptBy (sample seeds j) ms ks
-seed-kept seeds ms ks zero le kept = absurd (omega arith)
-seed-kept seeds ms ks (suc zero) le kept = absurd (omega arith)
-seed-kept seeds ms ks (suc (suc j)) le kept = subst (λ (n : ℕ). AreKeptBy (Seed (slice_index seeds n)) ms ks) (omega arith) kept
 
 -- one more choice of a sample leaves a survivor that is right
 pub right-more : (steps : ℕ) (seeds : List ℕ) (cut : Cut) (j : ℕ) (kept : List ℕ) → AreKeptBy (sample seeds j) (pending_of cut.lines) kept → IsVerdict steps cut (by_counts kept) None

@@ -19,10 +19,12 @@ use Rattle.life_model.specs.declared.life.Outcome.{Outcome}
 use Rattle.life_model.specs.declared.life.Outcome.TheVariants.{Starved}
 use Rattle.life_model.specs.Life.{script_of}
 use Rattle.life_laws.proofs.States.{one_state}
+use Rattle.power_cut.specs.Cut.{choosing, quiet_memory}
+use Rattle.store_order.specs.declared.choice.Choice.{Choice}
 use Rattle.image_check.specs.declared.recovered.Recovered.{Recovered}
 use Rattle.image_check.specs.Recovered.{IsRecovered}
 use Rattle.script_run.specs.Jobs.{MayResume, IsReady}
-use Rattle.drill.specs.Scripts.{drill_settings, drill_commands}
+use Rattle.drill.specs.Scripts.{drill_settings, drill_commands, drill_choice}
 use Rattle.drill.specs.Lives.{IsLivedOver, HasLived, IsLeftAtWant, drill_memory, memory_behind}
 use Rattle.drill.proofs.Histories.{HoldsHistory, place_behind, place_within}
 use Rattle.drill.proofs.NextLives.{scripts_few, lives_hold, has_rooms, lived_may_resume, lived_first, lived_more}
@@ -112,3 +114,9 @@ positions_few n life outcome memory found lived is =
     let sums : sum found.positions.items ≡ sum_by (λ (p : RestartPoint). p.position) is.state.points = ap sum is.positions ∙ sum-map (λ (p : RestartPoint). p.position) is.state.points in
     let most : length is.state.points * 200 ≡ 800 = ap (λ (k : ℕ). k * 200) many in
     omega (arith, total, sums, most)
+
+-- the memory that is made of the image of a cut is what is behind that life
+pub remade_is : (n life : ℕ) (left : List BankState) (keep : Choice) (rooms : ImageRooms) (r : Result (List BankState) AllocError) → keep ≡ drill_choice n life → rooms ≡ image_of left (choosing keep left)
+    → IfOk r (λ memory. memory ≡ quiet_memory rooms) → IfOk r (λ memory. memory ≡ memory_behind n life left)
+remade_is n life left keep rooms (Ok memory) is_keep is_rooms is = is ∙ ap quiet_memory (is_rooms ∙ ap (λ (k : Choice). image_of left (choosing k left)) is_keep)
+remade_is n life left keep rooms (Err error) is_keep is_rooms is = tt

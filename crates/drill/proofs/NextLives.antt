@@ -165,10 +165,6 @@ opening_over Resume s c memory ready = (
   record { settings_are = refl; scripts_are = refl; from = record { life = refl; epoch = refl; state = ready.lawful.1 } },
 )
 
--- a memory that is ready for a life of a drill is ready for its program
-pub ready_for : (kind : Life) (p q : Program) (memory : List BankState) → p ≡ q → IsReady kind q.settings q.threads memory → IsReady kind p.settings p.threads memory
-ready_for kind p q memory same ready = subst (λ (x : Program). IsReady kind x.settings x.threads memory) (sym same) ready
-
 -- what is told of a report and a memory that were left
 pub record IsToldOf (kind : Life) (p : Program) (over : List BankState) (r : ReportState) (left : List BankState) : Type 0 where
   pub told : (o : Opening) → OpensOver kind p.settings p.threads over o → TellsOf o (image_of over nothing_kept) 0 r left

@@ -12,7 +12,6 @@ use Rattle.store_order.specs.declared.choice.Choice.{Choice}
 use Rattle.store_order.specs.declared.choice.Choice.TheVariants.{Nothing, Seed}
 use Rattle.script_text.specs.Program.{round_robin, seeded, turns_of, keeping_of, program_of}
 use Rattle.script_text.specs.declared.mode.Mode.{Mode}
-use Rattle.script_text.specs.Schedules.{AreScheduled}
 use Rattle.script_text.specs.Text.{IsCommand, IsSection, IsKeeping, AreTurns, HasText}
 use Rattle.drill.specs.Scripts.{drill_settings, command_of, drawn_place, drill_command, first_commands, thread_commands, drill_commands, life_seed, drill_turns, drill_choice, drill_program}
 
@@ -88,10 +87,6 @@ drill_has_text n life = record {
   threads = refl;
   sections = (section n 0 (omega arith), (section n 1 (omega arith), (section n 2 (omega arith), (section n 3 (omega arith), tt))));
 }
-
--- and its turns are those of a schedule
-pub drill_scheduled : (n life : ℕ) → AreScheduled (drill_turns n life)
-drill_scheduled n life = elim (nat_lt life 8) as (λ (b : Bool). AreScheduled (if b then seeded (life_seed n life) 3000 else round_robin 1000000)) [ true ↦ tt | false ↦ tt ]
 
 -- the program of a script that is made of its parts
 pub drill_is : (n life : ℕ) (settings : Settings) (mode : Mode) (keep : Choice) (threads : Vec (Vec Command)) → settings ≡ drill_settings → turns_of mode ≡ drill_turns n life

@@ -1,13 +1,12 @@
 -- Plans that stores are put into.
-use Rattle.std.proofs.Common.{◌≡◌, ℕ, ◌+◌, ◌-◌, ◌<◌, ◌≤◌, ◌==◌, ◌||◌, Bool, true, false, suc, List, [], ◌∷◌, ◌++◌, length, get_or, drop, arith, refl, ap, ◌∙◌, if◌then◌else◌}
+use Rattle.std.proofs.Common.{◌≡◌, ℕ, ◌+◌, ◌-◌, ◌≤◌, Bool, true, false, List, [], ◌∷◌, ◌++◌, length, get_or, arith, refl, ap, ◌∙◌, if◌then◌else◌}
 use Rattle.std.proofs.lemmas.List.{append_assoc, length-append}
-use Rattle.std.proofs.Math.Seq.{drop-cons}
 use Rattle.line_memory.specs.Line.{BankState, bank_load}
 use Rattle.room_model.specs.declared.write.PlannedStore.{PlannedStore}
 use Rattle.room_model.specs.Chains.{RoomWords}
-use Rattle.room_model.specs.Writes.{store, touches, write, write_stores, needs_none, backup_stores}
+use Rattle.room_model.specs.Writes.{store, write, write_stores, needs_none, backup_stores}
 use Rattle.incll_var.specs.Laws.{FiveStoresLaw}
-use Rattle.incll_var.specs.Plans.{PlanState, filled, grown, with_places, line_in}
+use Rattle.incll_var.specs.Plans.{PlanState, filled, grown, with_places}
 use Rattle.room_model.specs.Banks.{loaded_triple}
 
 -- stores behind stores
@@ -54,13 +53,6 @@ write_stores-length e r before line word value = go (needs_none e r before line)
         ≡ (if b then 1 else 5)
     go true = refl
     go false = refl
-
--- the stores from one on
-pub touches-drop : (line : ℕ) (ss : List PlannedStore) (k : ℕ) → k < length ss → touches line (drop k ss) ≡ ((line_in ss k == line) || touches line (drop (k + 1) ss))
-touches-drop line ss k lt = ap (λ (xs : List PlannedStore). touches line xs) (drop-cons ss k (store 0 0 0) lt) ∙ ap (λ (n : ℕ). (line_in ss k == line) || touches line (drop n ss)) (one k)
-  where
-    one : (k : ℕ) → suc k ≡ k + 1
-    one k = omega arith
 
 -- a write has five stores at most
 pub five_stores : FiveStoresLaw

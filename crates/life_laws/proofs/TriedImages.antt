@@ -9,7 +9,7 @@ use Rattle.room_model.specs.Cell.{IsSafe}
 use Rattle.room_model.specs.MapRoom.{live_layout}
 use Rattle.room_model.specs.Formatted.{formatted, formatted_word}
 use Rattle.room_model.specs.Image.{image_of, nothing_kept, lines_at, recovered_room, IsFormatted}
-use Rattle.life_laws.specs.CutExamples.{small, blank, blanks, formatted_bank, header_line, line_of_epoch, put_stores, memory_with, CellExamples, ImageExamples, all_stored}
+use Rattle.life_laws.specs.CutExamples.{small, blank, blanks, formatted_from, header_line, line_of_epoch, put_stores, memory_with, CellExamples, ImageExamples, all_stored}
 use Rattle.life_laws.proofs.Survivors.{none_taken, words_left}
 use Rattle.life_laws.proofs.Formats.{past_header, formatted_recovers, layout_in_use}
 use Rattle.life_laws.proofs.Memories.{below_eight, broken, small_valid}
@@ -18,7 +18,7 @@ use Rattle.seq_object.specs.Sizes.{line_count}
 -- cells
 
 -- five stores of the first write of an epoch, and what each number of them leaves
-write_kept : (k : ℕ) → IsSafe 1 (0 ∷ 9 ∷ 0 ∷ []) (survivor (line_at (all_stored (formatted_bank 9) (take 5 put_stores)).lines 0) k)
+write_kept : (k : ℕ) → IsSafe 1 (0 ∷ 9 ∷ 0 ∷ []) (survivor (line_at (all_stored (formatted_from 9) (take 5 put_stores)).lines 0) k)
 write_kept zero = record { eight = refl; tag = omega arith; recovers = refl }
 write_kept (suc zero) = record { eight = refl; tag = omega arith; recovers = refl }
 write_kept (suc (suc zero)) = record { eight = refl; tag = omega arith; recovers = refl }
@@ -73,8 +73,8 @@ quiet_blank (suc n) zero = refl
 quiet_blank (suc n) (suc k) = quiet_blank n k
 
 -- a word of a formatted room
-room_word : (first line w : ℕ) → line < 16 → w < 8 → slice_index (line_at (formatted_bank first).lines line).base w ≡ formatted first line w
-room_word first zero w lt few = below_eight (λ w. slice_index (line_at (formatted_bank first).lines 0).base w ≡ formatted first 0 w)
+room_word : (first line w : ℕ) → line < 16 → w < 8 → slice_index (line_at (formatted_from first).lines line).base w ≡ formatted first line w
+room_word first zero w lt few = below_eight (λ w. slice_index (line_at (formatted_from first).lines 0).base w ≡ formatted first 0 w)
     refl refl refl refl refl refl refl refl w few
 room_word first (suc k) w lt few =
     ap (λ (l : LineState). slice_index l.base w) (blank_at 15 k (omega arith)) ∙ zero_word w ∙ sym (past_header first (suc k) w (omega arith))

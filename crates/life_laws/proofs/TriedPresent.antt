@@ -13,7 +13,7 @@ use Rattle.room_model.specs.Rooms.{StandsFor, point_in}
 use Rattle.life_model.specs.declared.life.Outcome.TheVariants.{Finished, Cut}
 use Rattle.life_model.specs.Life.{next_command, contents_now, point_after}
 use Rattle.life_model.specs.Present.{LoadsFirstStores, IsUnderWay, IsPresent}
-use Rattle.life_laws.specs.CutExamples.{small, putting, put_done, put_stores, blank, formatted_bank, line_of_epoch, fenced_write, half_put, PresentExamples, getting, enqueuing, getting_twice, got_twice, memory_with, header_line}
+use Rattle.life_laws.specs.CutExamples.{small, putting, put_done, put_stores, blank, formatted_from, line_of_epoch, fenced_write, half_put, PresentExamples, getting, enqueuing, getting_twice, got_twice, memory_with, header_line}
 use Rattle.life_laws.specs.Examples.{idle}
 use Rattle.life_model.specs.declared.life.Life.TheVariants.{Start}
 use Rattle.life_laws.proofs.TriedCounts.{count_none, low_count}
@@ -43,11 +43,11 @@ under = record {
   next = refl;
   here = refl;
   loads = record {
-    before = bank_load (formatted_bank 9);
-    stood = no_nodes (bank_load (formatted_bank 9)) refl refl refl
-        (below_eight (λ b. bank_load (formatted_bank 9) (b + 1) 0 ≡ 0) refl refl refl refl refl refl refl refl);
+    before = bank_load (formatted_from 9);
+    stood = no_nodes (bank_load (formatted_from 9)) refl refl refl
+        (below_eight (λ b. bank_load (formatted_from 9) (b + 1) 0 ≡ 0) refl refl refl refl refl refl refl refl);
     made = 5;
-    loads = loads_stored (formatted_bank 9) (take 5 put_stores) within;
+    loads = loads_stored (formatted_from 9) (take 5 put_stores) within;
   };
 }
   where

@@ -12,7 +12,7 @@ use Rattle.room_model.specs.Banks.{memory_words}
 use Rattle.room_model.specs.Image.{StandsAt, recovered_room}
 use Rattle.seq_object.specs.declared.history.RestartPoint.{RestartPoint}
 use Rattle.room_laws.proofs.StockLaws.{queue_header_law}
-use Rattle.life_laws.specs.CutExamples.{small, blank, blanks, formatted_bank, header_line, line_of_epoch, put_stores, memory_with, all_stored}
+use Rattle.life_laws.specs.CutExamples.{small, blank, blanks, formatted_from, header_line, line_of_epoch, put_stores, memory_with, all_stored}
 use Rattle.life_laws.specs.ToldExamples.{new_memory}
 use Rattle.life_laws.specs.StandsExamples.{new_image, StandsExamples, RecoverExamples}
 use Rattle.life_laws.proofs.Survivors.{quiet_left}
@@ -31,9 +31,9 @@ blank_recoverable : (i : ℕ) → i < 15 → IsRecoverable 1 (line_at (blanks 15
 blank_recoverable i lt = quiet_recoverable (line_at (blanks 15) i) (quiet_cell (line_at (blanks 15) i) (cell_at (blanks 15) i refl lt))
 
 -- and those of a formatted room
-formatted_recoverable : (i : ℕ) → i < 16 → IsRecoverable 1 (line_at (formatted_bank 2).lines i)
+formatted_recoverable : (i : ℕ) → i < 16 → IsRecoverable 1 (line_at (formatted_from 2).lines i)
 formatted_recoverable i lt =
-    quiet_recoverable (line_at (formatted_bank 2).lines i) (quiet_cell (line_at (formatted_bank 2).lines i) (cell_at (formatted_bank 2).lines i refl lt))
+    quiet_recoverable (line_at (formatted_from 2).lines i) (quiet_cell (line_at (formatted_from 2).lines i) (cell_at (formatted_from 2).lines i refl lt))
 
 module _ (header : LineState) (kept : IsRecoverable 1 header) (words : triple_of 1 header.base ≡ 0 ∷ 9 ∷ 0 ∷ []) where
   -- formatted memory with this header in its map room
@@ -87,7 +87,7 @@ module _ (header : LineState) (kept : IsRecoverable 1 header) (words : triple_of
 
 -- the header within the first write of the put
 abbrev half_header : LineState
-half_header = line_at (all_stored (formatted_bank 9) (take 5 put_stores)).lines 0
+half_header = line_at (all_stored (formatted_from 9) (take 5 put_stores)).lines 0
 
 -- the clause that holds or breaks
 pub stands_tried : StandsExamples

@@ -53,8 +53,8 @@ abbrev pub bank_with : List LineState → BankState
 bank_with lines = record { lines = lines; write_backs = 0 }
 
 -- a formatted room of 16 lines: nothing but the first fresh line in its header
-abbrev pub formatted_bank : ℕ → BankState
-formatted_bank first = bank_with (quiet_line (0 ∷ first ∷ 0 ∷ 0 ∷ 0 ∷ 0 ∷ 0 ∷ 0 ∷ []) ∷ blanks 15)
+abbrev pub formatted_from : ℕ → BankState
+formatted_from first = bank_with (quiet_line (0 ∷ first ∷ 0 ∷ 0 ∷ 0 ∷ 0 ∷ 0 ∷ 0 ∷ []) ∷ blanks 15)
 
 -- the map room after the put and the closing's fence: header, the head of bucket 5 in line 6, the node in line 9, each with its
 -- backup and the tag of epoch 1
@@ -73,7 +73,7 @@ line_of_epoch epoch = quiet_line (epoch ∷ 0 ∷ 0 ∷ 0 ∷ 0 ∷ 0 ∷ 0 ∷ 
 
 -- the memory once all rooms but the super room are closed, with this line in the super room
 abbrev pub closed_with : LineState → List BankState
-closed_with line = map_bank ∷ formatted_bank 2 ∷ thread_bank ∷ bank_with (line ∷ []) ∷ []
+closed_with line = map_bank ∷ formatted_from 2 ∷ thread_bank ∷ bank_with (line ∷ []) ∷ []
 
 -- before the epoch write
 abbrev pub unwritten : List BankState
@@ -94,11 +94,11 @@ all_stored bank (s ∷ ss) = all_stored (with_line bank s.line (stored (line_at 
 
 -- the stores of the put
 abbrev pub put_stores : List PlannedStore
-put_stores = command_stores live_layout small 1 0 (bank_load (formatted_bank 9)) (Put 5 7)
+put_stores = command_stores live_layout small 1 0 (bank_load (formatted_from 9)) (Put 5 7)
 
 -- a line of the map room after these stores, a write-back and a fence
 abbrev pub put_line : ℕ → List ℕ
-put_line line = (fenced (written_back (line_at (all_stored (formatted_bank 9) put_stores).lines line))).base
+put_line line = (fenced (written_back (line_at (all_stored (formatted_from 9) put_stores).lines line))).base
 
 -- an image has this epoch, and recovers to this state
 abbrev pub RecoversAt : ℕ → State → List BankState → KeptCounts → Type 0
@@ -131,12 +131,12 @@ pub record EpochWriteExamples : Type 0 where
 
 -- the formatted header of the map room
 abbrev pub header_line : LineState
-header_line = line_at (formatted_bank 9).lines 0
+header_line = line_at (formatted_from 9).lines 0
 
 -- cells whose survivors keep what memory held, and cells whose survivors do not
 pub record CellExamples : Type 0 where
   -- backup, tag and then the record
-  pub whole_write : IsRecoverable 1 (line_at (all_stored (formatted_bank 9) (take 5 put_stores)).lines 0)
+  pub whole_write : IsRecoverable 1 (line_at (all_stored (formatted_from 9) (take 5 put_stores)).lines 0)
   -- the record before its backup
   pub record_first : IsRecoverable 1 (stored header_line 1 10) → ⊥
   -- the tag before the backup
@@ -148,7 +148,7 @@ pub record CellExamples : Type 0 where
 
 -- a memory with these in the map room's header, in the thread's room and in the super room
 abbrev pub memory_with : LineState → LineState → LineState → List BankState
-memory_with header thread super = bank_with (header ∷ blanks 15) ∷ formatted_bank 2 ∷ bank_with (thread ∷ []) ∷ bank_with (super ∷ []) ∷ []
+memory_with header thread super = bank_with (header ∷ blanks 15) ∷ formatted_from 2 ∷ bank_with (thread ∷ []) ∷ bank_with (super ∷ []) ∷ []
 
 -- formatted memory of epoch 0, whose headers have their record as backup too, since every tag is that epoch
 abbrev pub no_epoch_memory : List BankState
@@ -165,7 +165,7 @@ threadless = sizes_of (settings 0 1)
 
 -- formatted memory of these sizes
 abbrev pub threadless_memory : List BankState
-threadless_memory = formatted_bank 9 ∷ formatted_bank 2 ∷ bank_with (line_of_epoch 1 ∷ []) ∷ []
+threadless_memory = formatted_from 9 ∷ formatted_from 2 ∷ bank_with (line_of_epoch 1 ∷ []) ∷ []
 
 -- an image that is formatted, and lawful, and images that are not
 pub record ImageExamples : Type 0 where
@@ -183,7 +183,7 @@ pub record ImageExamples : Type 0 where
   -- no thread
   pub no_thread : IsLawful live_layout threadless (image_of threadless_memory nothing_kept) → ⊥
   -- a room that is missing
-  pub no_room : IsUnlawful (formatted_bank 9 ∷ formatted_bank 2 ∷ bank_with (line_of_epoch 1 ∷ []) ∷ [])
+  pub no_room : IsUnlawful (formatted_from 9 ∷ formatted_from 2 ∷ bank_with (line_of_epoch 1 ∷ []) ∷ [])
   -- of the closed memory recovery at epoch 1 restores three cells of the map room and the thread's
   pub torn_cells : torn_cells small (image_of unwritten nothing_kept) ≡ 4
   pub torn_rooms : torn_rooms small (image_of unwritten nothing_kept) ≡ 2
@@ -236,7 +236,7 @@ pub record ListExamples : Type 0 where
 
 -- the memory before the epoch write, but that the thread's position was written without its backup
 abbrev pub no_backup_memory : List BankState
-no_backup_memory = map_bank ∷ formatted_bank 2 ∷ bank_with (line_of_epoch 1 ∷ []) ∷ bank_with (line_of_epoch 1 ∷ []) ∷ []
+no_backup_memory = map_bank ∷ formatted_from 2 ∷ bank_with (line_of_epoch 1 ∷ []) ∷ bank_with (line_of_epoch 1 ∷ []) ∷ []
 
 -- a thread that puts 7 at key 5 and 8 at key 6, two commands for an epoch
 abbrev pub putting_two : Opening
@@ -257,7 +257,7 @@ pub record UnsafeExamples : Type 0 where
 
 -- the memory in which the put was cut after its first write, and this line in the thread's room
 abbrev pub half_put : LineState → List BankState
-half_put line = all_stored (formatted_bank 9) (take 5 put_stores) ∷ formatted_bank 2 ∷ bank_with (line ∷ []) ∷ bank_with (line_of_epoch 1 ∷ []) ∷ []
+half_put line = all_stored (formatted_from 9) (take 5 put_stores) ∷ formatted_from 2 ∷ bank_with (line ∷ []) ∷ bank_with (line_of_epoch 1 ∷ []) ∷ []
 
 -- a thread that gets a key, and one that puts an item into the queue
 abbrev pub getting : Opening
@@ -272,7 +272,7 @@ putting_beside = start_of (settings 2 1) ((Put 5 7 ∷ []) ∷ [] ∷ [])
 
 -- the room of its put that was cut, and both threads' rooms
 abbrev pub half_beside : List BankState
-half_beside = all_stored (formatted_bank 9) (take 5 put_stores) ∷ formatted_bank 2
+half_beside = all_stored (formatted_from 9) (take 5 put_stores) ∷ formatted_from 2
     ∷ bank_with (blank ∷ []) ∷ bank_with (blank ∷ []) ∷ bank_with (line_of_epoch 1 ∷ []) ∷ []
 
 -- a thread that gets a key twice, and that did

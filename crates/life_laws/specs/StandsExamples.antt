@@ -7,7 +7,7 @@ use Rattle.seq_object.specs.History.{State, first_state, first_points}
 use Rattle.line_memory.specs.Line.{BankState, quiet_line, stored}
 use Rattle.room_model.specs.MapRoom.{live_layout}
 use Rattle.room_model.specs.Image.{ImageRooms, image_of, nothing_kept, StandsAt, Recovers, IsLawful, IsFormatted}
-use Rattle.life_laws.specs.CutExamples.{small, blank, blanks, bank_with, formatted_bank, header_line, line_of_epoch, memory_with, no_epoch_memory, threadless, threadless_memory, half_put}
+use Rattle.life_laws.specs.CutExamples.{small, blank, blanks, bank_with, formatted_from, header_line, line_of_epoch, memory_with, no_epoch_memory, threadless, threadless_memory, half_put}
 use Rattle.life_laws.specs.ToldExamples.{new_memory}
 
 -- formatted memory and a room more
@@ -16,7 +16,7 @@ more_rooms = new_memory ++ bank_with (blank ∷ []) ∷ []
 
 -- formatted memory, but that its map room has 17 lines
 abbrev pub more_lines : List BankState
-more_lines = bank_with (header_line ∷ blanks 16) ∷ formatted_bank 2 ∷ bank_with (blank ∷ []) ∷ bank_with (line_of_epoch 1 ∷ []) ∷ []
+more_lines = bank_with (header_line ∷ blanks 16) ∷ formatted_from 2 ∷ bank_with (blank ∷ []) ∷ bank_with (line_of_epoch 1 ∷ []) ∷ []
 
 -- the first state, but that the queue has an item
 abbrev pub item_state : State

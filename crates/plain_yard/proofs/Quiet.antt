@@ -12,14 +12,14 @@ use Rattle.yard_model.specs.Views.{saw_power, looked, left_in, claimed}
 use Rattle.yard_model.specs.Conditions.{MayTick, MayLeave, MayClaim}
 use Rattle.yard_model.specs.Steps.{with_bit, without_bit}
 use Rattle.room_yard.specs.Told.{IsTold}
-use Rattle.room_yard.specs.Calls.{MayTryStand, MayTryLeave, MayTryClaim, ForbidsLeave, ForbidsClaim}
+use Rattle.room_yard.specs.Calls.{MayTryStand, MayTryLeave, MayTryClaim, ForbidsLeave, ForbidsClaim, AllowsLeave, AllowsClaim}
 use Rattle.room_yard.specs.Answers.{TurnedOff, Ticked, SawPower, Stood, StandIsRefused, HasLeft, LeaveRests, Claimed, ClaimRests, FoundForbidden, MetAnother}
 use Rattle.room_yard.proofs.Told.{off_answers, tick_answers, power_answers, stand_answers, leave_answers, leave_rest_answers, claim_answers, claim_rest_answers}
 use Rattle.room_yard.proofs.Words.{leave_is_decided, claim_is_decided}
 use Rattle.plain_yard.specs.declared.seat.Holding.{Holding}
 use Rattle.plain_yard.specs.declared.seat.Seat.{Seat}
 use Rattle.plain_yard.specs.declared.yard.PlainYard.TheInside.{Inside}
-use Rattle.plain_yard.specs.Seats.{off_seat, tick_seat, power_seat, look_seat, run_seat, stand_seat, close_seat, MayGo, MayClose}
+use Rattle.plain_yard.specs.Seats.{off_seat, tick_seat, power_seat, look_seat, run_seat, stand_seat, close_seat}
 use Rattle.plain_yard.specs.Shown.{ShownYard, view_at, IsThread}
 use Rattle.plain_yard.specs.Meaning.{entries_in, grip_in, position_in}
 use Rattle.plain_yard.specs.Kept.{told_in, shown_yard, IsKeptYard}
@@ -69,17 +69,17 @@ module _ (p : Inside) (y : ShownYard) (is : shown_yard p ≡ y) (kept : IsKeptYa
       leave_here : MayTryLeave v end
       leave_here = subst (λ (z : View). MayTryLeave z end) (view_is p y is i thread s at) may
 
-      pub leave_done : MayGo p.arrival end s.ran → (epoch : ℕ) → epoch ≡ (arrival_of p.arrival).epoch → r ≡ run_seat (arrival_of p.arrival).epoch p.beginning.settings.every (look_seat 2 p.arrival s) → t ≡ (p.tick, without_bit p.arrival i)
+      pub leave_done : AllowsLeave end s.ran p.arrival → (epoch : ℕ) → epoch ≡ (arrival_of p.arrival).epoch → r ≡ run_seat (arrival_of p.arrival).epoch p.beginning.settings.every (look_seat 2 p.arrival s) → t ≡ (p.tick, without_bit p.arrival i)
           → IsDone (λ v t w u. HasLeft v t end epoch w u) y i (quiet_yard p i r t)
       leave_done go epoch is_epoch e same =
-          let m : MayLeave v end p.arrival = record { on = leave_here.on; phase = leave_here.phase; not_ended = leave_here.not_ended; next = leave_here.next; not_closing = go.0; not_over = go.1; later = go.2; allowed = go.3 } in
+          let m : MayLeave v end p.arrival = record { on = leave_here.on; phase = leave_here.phase; not_ended = leave_here.not_ended; next = leave_here.next; not_closing = go.not_closing; not_over = go.not_over; later = go.later; allowed = go.allowed } in
           let a = leave_answers (told_in p) v end told_here m in
           quiet (λ v t w u. HasLeft v t end epoch w u) p y is kept i thread s at r t (p.tick, without_bit p.arrival i) same a.0 (ap view_now e ∙ ((λ j. left_in (looked v 2 (sym a.3.world.0 j)) (arrival_of p.arrival).epoch) ∙ sym a.3.view)) a.1 a.3.world.1
           (a.2, subst (λ (n : ℕ). HasLeft v (Some (told_in p)) end n a.0 (Some a.1)) (sym is_epoch) a.3) (subst OfSeat (sym e) of_seat)
 
-      pub leave_rests : (MayGo p.arrival end s.ran → ⊥) → r ≡ look_seat 2 p.arrival s → t ≡ (p.tick, p.arrival) → IsDone (λ v t w u. LeaveRests v t end (record { found = p.arrival; met = p.arrival }) w u) y i (quiet_yard p i r t)
+      pub leave_rests : (AllowsLeave end s.ran p.arrival → ⊥) → r ≡ look_seat 2 p.arrival s → t ≡ (p.tick, p.arrival) → IsDone (λ v t w u. LeaveRests v t end (record { found = p.arrival; met = p.arrival }) w u) y i (quiet_yard p i r t)
       leave_rests stays e same =
-          let f : ForbidsLeave v end p.arrival = ⊎_elim (λ (m : MayLeave v end p.arrival). absurd (stays (m.not_closing, m.not_over, m.later, m.allowed))) (λ (f : ForbidsLeave v end p.arrival). f) (leave_is_decided v end p.arrival leave_here) in
+          let f : ForbidsLeave v end p.arrival = ⊎_elim (λ (m : MayLeave v end p.arrival). absurd (stays (record { not_closing = m.not_closing; not_over = m.not_over; later = m.later; allowed = m.allowed }))) (λ (f : ForbidsLeave v end p.arrival). f) (leave_is_decided v end p.arrival leave_here) in
           let a = leave_rest_answers (told_in p) v end told_here f in
           quiet (λ v t w u. LeaveRests v t end (record { found = p.arrival; met = p.arrival }) w u) p y is kept i thread s at r t (p.tick, p.arrival) same a.0 (ap view_now e ∙ sym (rest_view a.0 (ForbidsLeave v end p.arrival) (MayLeave v end p.arrival) a.3.cause)) a.1 a.3.world.2 (a.2, a.3) (subst OfSeat (sym e) of_seat)
 
@@ -87,16 +87,16 @@ module _ (p : Inside) (y : ShownYard) (is : shown_yard p ≡ y) (kept : IsKeptYa
       claim_here : MayTryClaim v
       claim_here = subst (λ (z : View). MayTryClaim z) (view_is p y is i thread s at) may
 
-      pub claim_done : MayClose p.arrival s.ran p.beginning.settings.threads → r ≡ close_seat (look_seat 2 p.arrival s) → t ≡ (p.tick, with_bit p.arrival 16) → IsDone Claimed y i (quiet_yard p i r t)
+      pub claim_done : AllowsClaim p.beginning.settings.threads s.ran p.arrival → r ≡ close_seat (look_seat 2 p.arrival s) → t ≡ (p.tick, with_bit p.arrival 16) → IsDone Claimed y i (quiet_yard p i r t)
       claim_done go e same =
-          let m : MayClaim v p.arrival = record { on = claim_here.on; phase = claim_here.phase; few_checkpoints = claim_here.few_checkpoints; all_stand = go.0; not_closing = go.1; not_over = go.2; epoch = go.3 } in
+          let m : MayClaim v p.arrival = record { on = claim_here.on; phase = claim_here.phase; few_checkpoints = claim_here.few_checkpoints; all_stand = go.all_stand; not_closing = go.not_closing; not_over = go.not_over; epoch = go.epoch } in
           let a = claim_answers (told_in p) v told_here m in
           quiet Claimed p y is kept i thread s at r t (p.tick, with_bit p.arrival 16) same a.0 (ap view_now e ∙ ((λ j. claimed (looked v 2 (sym a.3.world.0 j))) ∙ sym a.3.view)) a.1 a.3.world.1 (a.2, a.3)
           (subst OfSeat (sym e) ((of_seat.0.0, omega arith), of_seat.1))
 
-      pub claim_rests : (MayClose p.arrival s.ran p.beginning.settings.threads → ⊥) → r ≡ look_seat 2 p.arrival s → t ≡ (p.tick, p.arrival) → IsDone (λ v t w u. ClaimRests v t (record { found = p.arrival; met = p.arrival }) w u) y i (quiet_yard p i r t)
+      pub claim_rests : (AllowsClaim p.beginning.settings.threads s.ran p.arrival → ⊥) → r ≡ look_seat 2 p.arrival s → t ≡ (p.tick, p.arrival) → IsDone (λ v t w u. ClaimRests v t (record { found = p.arrival; met = p.arrival }) w u) y i (quiet_yard p i r t)
       claim_rests stays e same =
-          let f : ForbidsClaim v p.arrival = ⊎_elim (λ (m : MayClaim v p.arrival). absurd (stays (m.all_stand, m.not_closing, m.not_over, m.epoch))) (λ (f : ForbidsClaim v p.arrival). f) (claim_is_decided v p.arrival claim_here) in
+          let f : ForbidsClaim v p.arrival = ⊎_elim (λ (m : MayClaim v p.arrival). absurd (stays (record { all_stand = m.all_stand; not_closing = m.not_closing; not_over = m.not_over; epoch = m.epoch }))) (λ (f : ForbidsClaim v p.arrival). f) (claim_is_decided v p.arrival claim_here) in
           let a = claim_rest_answers (told_in p) v told_here f in
           quiet (λ v t w u. ClaimRests v t (record { found = p.arrival; met = p.arrival }) w u) p y is kept i thread s at r t (p.tick, p.arrival) same a.0 (ap view_now e ∙ sym (rest_view a.0 (ForbidsClaim v p.arrival) (MayClaim v p.arrival) a.3.cause)) a.1 a.3.world.2 (a.2, a.3) (subst OfSeat (sym e) of_seat)
 

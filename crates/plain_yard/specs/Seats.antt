@@ -57,10 +57,7 @@ tick_seat s = record s { ticks = s.ticks + 1; saw_on = false }
 abbrev pub off_seat : Seat → Seat
 off_seat s = record s { saw_off = true; called_off = true }
 
--- LEAVE. A thread of this end that last ran in this epoch may leave by this word.
-abbrev pub MayGo : ℕ → ThreadEnd → ℕ → Type 0
-MayGo word end ran = ((arrival_of word).closing ≡ false) × ((arrival_of word).over ≡ false) × (ran < (arrival_of word).epoch) × (leaves end (arrival_of word).fed ≡ true)
-
+-- LEAVE.
 abbrev pub run_seat : ℕ → ℕ → Seat → Seat
 run_seat epoch every s = record s { phase = Running; ran = epoch; quota = every; wrote = false; found_empty = false }
 
@@ -119,8 +116,8 @@ pub record LearnsOneMore (s : Settings) (room : ℕ) (c : Learnt) : Type 0 where
   pub known : is_thread_room (sizes_of s) room ≡ true → c.known < 16
 
 -- one more room is done, and what it tells is learnt
-abbrev pub learnt_with : Settings → ℕ → Bool → ThreadEnd → Learnt → Learnt
-learnt_with s room empty end c = record {
+abbrev pub learnt_more : Settings → ℕ → Bool → ThreadEnd → Learnt → Learnt
+learnt_more s room empty end c = record {
   rooms = c.rooms + 1;
   fed = if room == s.shards then Some (not empty) else c.fed;
   ends = if is_thread_room (sizes_of s) room then slice_set c.ends c.known end else c.ends;
@@ -130,7 +127,7 @@ learnt_with s room empty end c = record {
 abbrev pub learnt_in : Phase → Settings → ℕ → Bool → ThreadEnd → Learnt → Learnt
 learnt_in Standing s room empty end c = c
 learnt_in Running s room empty end c = c
-learnt_in Closing s room empty end c = learnt_with s room empty end c
+learnt_in Closing s room empty end c = learnt_more s room empty end c
 
 -- the seat of a thread that gave this room back
 abbrev pub freed_seat : Settings → ℕ → ℕ → Bool → ThreadEnd → Seat → Seat
@@ -145,17 +142,13 @@ freed_seat s thread room empty end seat = record seat {
 abbrev pub given_seat : ℕ → Seat → Seat
 given_seat room s = record s { holding = None; given_back = Some record { room = room; drew = not (drew_none s.holding) } }
 
--- CLAIM. A thread that last ran in this epoch may close by this word.
-abbrev pub MayClose : ℕ → ℕ → ℕ → Type 0
-MayClose word ran threads = AllStand (arrival_of word).mask threads × ((arrival_of word).closing ≡ false) × ((arrival_of word).over ≡ false) × ((arrival_of word).epoch ≡ ran)
-
--- nothing done and nothing learnt
-abbrev pub nothing_learnt : Learnt → Learnt
-nothing_learnt c = record c { rooms = 0; fed = None; known = 0 }
+-- CLAIM. Nothing is done and nothing learnt.
+abbrev pub unlearnt : Learnt → Learnt
+unlearnt c = record c { rooms = 0; fed = None; known = 0 }
 
 abbrev pub close_seat : Seat → Seat
-close_seat s = record s { phase = Closing; learnt = nothing_learnt s.learnt }
+close_seat s = record s { phase = Closing; learnt = unlearnt s.learnt }
 
 -- RELEASE.
 abbrev pub release_seat : Seat → Seat
-release_seat s = record s { phase = Standing; checkpoints = s.checkpoints + 1; last_checkpoint = s.ran + 1; learnt = nothing_learnt s.learnt }
+release_seat s = record s { phase = Standing; checkpoints = s.checkpoints + 1; last_checkpoint = s.ran + 1; learnt = unlearnt s.learnt }

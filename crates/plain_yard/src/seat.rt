@@ -2,7 +2,7 @@
 
 ghost use Rattle.std.specs.Prelude.{◌≡◌, ◌+◌, ◌<◌, ◌≤◌, length, replicate};
 ghost use Rattle.plain_yard.specs.Seats.{opening_seat, look_seat, power_seat, tick_seat, off_seat, run_seat, stand_seat, lock_seat, draw_seat, freed_seat, given_seat, close_seat, release_seat};
-ghost use Rattle.plain_yard.specs.Seats.{room_of_seat, learnt_with, nothing_learnt, LearnsOneMore};
+ghost use Rattle.plain_yard.specs.Seats.{room_of_seat, learnt_more, unlearnt, LearnsOneMore};
 
 use crate::room::position_in;
 use restart_point::ThreadEnd;
@@ -298,7 +298,7 @@ impl Seat {
 impl Learnt {
     /// Nothing done and nothing learnt.
     fn cleared(self) -> Learnt
-        ensures { result ≡ nothing_learnt self }
+        ensures { result ≡ unlearnt self }
     {
         Learnt {
             rooms: 0,
@@ -314,7 +314,7 @@ impl Learnt {
         requires shards { settings.now.shards ≤ 64 }
         requires threads { settings.now.threads ≤ 16 }
         requires learns { LearnsOneMore settings.now room self }
-        ensures { result ≡ learnt_with settings.now room empty end self }
+        ensures { result ≡ learnt_more settings.now room empty end self }
     {
         let mut learnt = self;
         learnt.rooms += 1;

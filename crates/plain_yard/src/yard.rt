@@ -17,10 +17,12 @@ use crate::emptied::{Emptied, dead_among, gathered, placed};
 use crate::opening::{Lists, Parts};
 use crate::room::{end_in, is_empty_queue};
 use crate::seat::{Drawn, Seat};
-use crate::word::{bit_of, may_close, may_go, word_of_epoch};
+use crate::word::bit_of;
 use life_model::Mark;
 use restart_point::{Arrival, ThreadEnd};
-use room_yard::{Held, HoldsLock, Rest, World, WorldParts};
+use room_yard::{
+    Held, HoldsLock, Rest, World, WorldParts, allows_claim, allows_leave, word_of_epoch,
+};
 use seq_object::{Command, Entry, Settings};
 use std::alloc::Global;
 use std::marker::Model;
@@ -287,7 +289,7 @@ impl PlainYard {
         let found = self.arrival;
         let seat = self.seats[thread as usize];
         let looked = seat.looking(2, found);
-        if may_go(found, end, seat.ran) {
+        if allows_leave(found, end, seat.ran) {
             let epoch = Arrival::of(found).epoch;
             self.seats[thread as usize] = looked.running(epoch, self.beginning.settings.every);
             self.arrival = found & !bit_of(thread);
@@ -310,7 +312,7 @@ impl PlainYard {
         let found = self.arrival;
         let seat = self.seats[thread as usize];
         let looked = seat.looking(2, found);
-        if may_close(found, seat.ran, self.beginning.settings.threads) {
+        if allows_claim(found, self.beginning.settings.threads, seat.ran) {
             self.seats[thread as usize] = looked.closing();
             self.arrival = found | 1 << 16;
             Ok(())

@@ -84,19 +84,6 @@ pub record FitsTelling (r : RecoveryState) : Type 0 where
   pub threads : r.settings.threads < 2 ^ 16
   pub within : r.settings.shards + 1 + r.settings.threads ≤ length r.rooms
 
-pub fits_telling : (o : Opening) (r : RecoveryState) → IsRecovery o r → FitsTelling r
-fits_telling o r is =
-    let shards_are : r.settings.shards ≡ o.settings.shards = ap (λ (s : Settings). s.shards) is.settings in
-    let threads_are : r.settings.threads ≡ o.settings.threads = ap (λ (s : Settings). s.threads) is.settings in
-    let shards = is.valid.few_shards in
-    let threads = is.valid.few_threads in
-    let number = is.number in
-    record {
-      shards = omega (arith, shards_are, shards);
-      threads = omega (arith, threads_are, threads);
-      within = omega (arith, shards_are, threads_are, number);
-    }
-
 -- the last room is the super room
 pub last_super : (o : Opening) (r : RecoveryState) → IsRecovery o r → IsSuperRoom (bank_of (last_of r.rooms))
 last_super o r is =

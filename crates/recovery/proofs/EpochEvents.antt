@@ -94,9 +94,6 @@ last_is o rooms number = omega (arith, number)
 pub last_lt : (o : Opening) (rooms : List Room) → length rooms ≡ room_count (sizes o) → length rooms - 1 < length rooms
 last_lt o rooms number = omega (arith, number)
 
-pub some_rooms : (o : Opening) (r : RecoveryState) → IsRecovery o r → 0 < length r.rooms
-some_rooms o r is = let number = is.number in omega (arith, number)
-
 -- one with these rooms, at this stage
 pub in_stage : (o : Opening) (r : RecoveryState) (rooms : List Room) (stage : EpochStage) → IsRecovery o r → length rooms ≡ length r.rooms → EachFrom (IsRoomIn o stage) 0 rooms → IsRecovery o (record r { rooms = rooms; stage = stage })
 in_stage o r rooms stage is count each = record {

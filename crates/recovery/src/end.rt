@@ -1,14 +1,13 @@
-//! What a recovery leaves at its end: the threads' ends, and the arrival word.
+//! What a recovery leaves at its end: the threads' ends, and what the arrival word shows.
 
 ghost use Rattle.std.specs.Prelude.{◌≡◌, ◌<◌, ◌≤◌, ◌+◌, ◌-◌, ◌^◌, ℕ, length, not};
 ghost use Rattle.room_model.specs.EpochLine.{loaded_epoch};
 ghost use Rattle.rooms.specs.Rooms.{bank_of, is_empty_queue, IsWhole};
-ghost use Rattle.room_yard.specs.Answers.{next_word};
 ghost use Rattle.recovery.specs.Restored.{room_at};
 ghost use Rattle.recovery.specs.Recovering.{last_of};
 ghost use Rattle.recovery.specs.Ends.{MayBeTold, is_at_end, told, AreTold, are_at_end};
 
-use restart_point::{Arrival, ThreadEnd};
+use restart_point::ThreadEnd;
 use rooms::{CellRoom, Room};
 
 /// Tells a thread's room its end, where so many commands are in the thread's script, and says whether it is at the script's
@@ -67,19 +66,4 @@ pub(crate) fn epoch_in(rooms: &[Room]) -> u32
     ensures { result ≡ loaded_epoch (bank_of (last_of rooms.now)) }
 {
     rooms[rooms.len() - 1].load(0, 0) as u32
-}
-
-/// The arrival word with which an epoch begins: each of so many threads, at most 16, stands, and none closes.
-pub(crate) fn word_of(threads: u32, over: bool, fed: bool, epoch: u32) -> u64
-    requires { threads ≤ 16 }
-    ensures { result ≡ next_word threads over fed epoch }
-{
-    let arrival = Arrival {
-        mask: ((1u32 << threads) - 1) as u16,
-        closing: false,
-        over,
-        fed,
-        epoch,
-    };
-    arrival.word()
 }

@@ -17,12 +17,12 @@ ghost use Rattle.recovery.specs.Laws.{AreLengthsOf, IsWorldOf};
 ghost use Rattle.recovery.specs.Recovering.{IsRecovery, AllWriteLittleBack, stepped, step_to, marks_at, events_left, recovery_events, epoch_by_load, write_backs_of};
 
 use crate::begin::{memory_epoch_in, rooms_of};
-use crate::end::{epoch_in, has_item, tell_ends, word_of};
+use crate::end::{epoch_in, has_item, tell_ends};
 use crate::epoch::{fence, store_next, write_back};
 use crate::restores::restore_next;
 use epoch_word::EpochStage;
 use line_memory::{Bank, Memory};
-use room_yard::{World, WorldParts};
+use room_yard::{World, WorldParts, word_of_epoch};
 use rooms::Room;
 use seq_object::Settings;
 use std::alloc::{AllocError, Global};
@@ -179,7 +179,7 @@ impl Recovery {
         let fed = has_item(&rooms[settings.shards as usize]);
         let epoch = epoch_in(rooms.as_slice());
         let over = tell_ends(&mut rooms, settings.shards, lengths);
-        let arrival = word_of(settings.threads, over, fed, epoch);
+        let arrival = word_of_epoch(settings.threads, over, fed, epoch);
         World::of(WorldParts {
             rooms,
             arrival,

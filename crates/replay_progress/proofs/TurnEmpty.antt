@@ -63,10 +63,6 @@ its_thread s i (Queue x) within kind = let k = kind.0 in absurd (omega (arith, k
 its_thread s i (Thread x) within kind = tt
 its_thread s i (Super x) within kind = absurd (omega (arith, kind, within))
 
-begun_room : (reply : Option Reply) (x : Room) → room_in (begun_hand reply x) ≡ Some x
-begun_room (Some reply) x = refl
-begun_room None x = refl
-
 module _ (i : ℕ) (s s' : ReplayState) (c d : WorkerState) (turn : IsTurn i s s' c d) (right : GoesOnRight s) (hand_is : c.hand ≡ Empty) (phase : (view_at s.yard i).phase ≡ Running) where
   abbrev v : View
   v = view_at s.yard i

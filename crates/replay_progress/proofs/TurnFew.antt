@@ -30,7 +30,7 @@ use Rattle.yard_laws.proofs.Knowns.{picked_number}
 use Rattle.yard_laws.proofs.Lists.{at_inside}
 use Rattle.yard_laws.proofs.WriteBacks.{few_are_written}
 use Rattle.room_in_hand.specs.Known.{Knowledge, knows}
-use Rattle.room_in_hand.specs.InHand.{RoomUse, resting, flushing, flushed, shut, writing_epoch, working, writing_point, IsInHand, IsKept, IsResting, epoch_write_backs}
+use Rattle.room_in_hand.specs.InHand.{RoomUse, resting, flushing, flushed, shut, writing_epoch, working, writing_point, IsInHand, KeepsRoom, IsResting, epoch_write_backs}
 use Rattle.room_in_hand.proofs.Moves.{bound_most}
 use Rattle.coordinator.specs.declared.hand.Hand.{Hand as InClosing}
 use Rattle.coordinator.specs.declared.hand.Hand.TheVariants.{Empty as NextRoom, Flushing, Flushed, Shut, Epoch, AllDone, Over}
@@ -85,7 +85,7 @@ abbrev pub most_in_hand : Knowledge → ℕ
 most_in_hand k = if nat_le k.room k.settings.shards then 4 * length k.history else k.closings + 1
 
 module _ (k : Knowledge) where
-  rests_few : (x : Room) → IsKept k x → IsResting k x → (bank_of x).write_backs + lines_unasked x ≤ k.opened + most_in_hand k
+  rests_few : (x : Room) → KeepsRoom k x → IsResting k x → (bank_of x).write_backs + lines_unasked x ≤ k.opened + most_in_hand k
   rests_few x kept rests = by (nat_le k.room k.settings.shards) (nat_lt k.room (super_room (sizes_of k.settings))) rests.write_backs
     where
       by : (commands thread : Bool) → (bank_of x).write_backs + lines_unasked x ≤ k.opened + cond commands (4 * length (history_of x)) (cond thread (position_bound k.epoch k.closings (state_of x)) (k.closings + 0))

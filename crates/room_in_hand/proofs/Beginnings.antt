@@ -34,7 +34,7 @@ use Rattle.rooms.specs.declared.room.Room.TheVariants.{Map, Queue}
 use Rattle.rooms.specs.Rooms.{bank_of, cells_of, state_of}
 use Rattle.yard_model.specs.Homes.{IsFreeState, position_bound}
 use Rattle.room_in_hand.specs.Known.{Knowledge}
-use Rattle.room_in_hand.specs.InHand.{resting, working, IsKept, IsResting, IsWorking, IsInHand}
+use Rattle.room_in_hand.specs.InHand.{resting, working, KeepsRoom, IsResting, IsWorking, IsInHand}
 use Rattle.room_in_hand.specs.Working.{begun_command_use}
 use Rattle.room_in_hand.proofs.Moves.{Moves, cells_are, history_same, kept_on, resting_on, bound_on, bound_most}
 use Rattle.room_in_hand.proofs.CommandRooms.{IsNumbered, Leaves, map_numbered, queue_numbered, same_sizes, some_shards, part_here, stands_here, map_kept, queue_kept, low_bound}
@@ -48,7 +48,7 @@ module _ (x y : Room) (epoch : ℕ) (m : Moves x y (with_state (cells_of x) (Run
   pub entered_state : state_of y ≡ Running epoch
   entered_state = ap (λ (c : CellBankState). c.state) (cells_are x y (with_state (cells_of x) (Running epoch)) m)
 
-  pub entered_kept : (k : Knowledge) → IsKept k x → IsKept k y
+  pub entered_kept : (k : Knowledge) → KeepsRoom k x → KeepsRoom k y
   entered_kept k was = kept_on x y (with_state (cells_of x) (Running epoch)) m k was (ap (memory_words k.epoch) entered_bank) (subst (λ (b : BankState). k.opened ≤ b.write_backs) (sym entered_bank) was.no_fewer)
 
   pub entered_rests : (k : Knowledge) → IsResting k x → IsResting k y
@@ -74,7 +74,7 @@ record Rests (k : Knowledge) (s : CommandRoomState) : Type 0 where
   stands : StandsFor live_layout (sizes_of k.settings) k.room (words_of s) k.now
   few : s.cells.bank.write_backs + unasked s.cells.bank.lines ≤ k.opened + 4 * length k.history
 
-map_rests : (k : Knowledge) (s : CommandRoomState) → IsKept k (Map s) → IsResting k (Map s) → Rests k s
+map_rests : (k : Knowledge) (s : CommandRoomState) → KeepsRoom k (Map s) → IsResting k (Map s) → Rests k s
 map_rests k s kept rests =
     let own = map_numbered k s kept in record {
       own = own;
@@ -88,7 +88,7 @@ map_rests k s kept rests =
           omega (arith, f, b, h);
     }
 
-queue_rests : (k : Knowledge) (s : CommandRoomState) → IsKept k (Queue s) → IsResting k (Queue s) → Rests k s
+queue_rests : (k : Knowledge) (s : CommandRoomState) → KeepsRoom k (Queue s) → IsResting k (Queue s) → Rests k s
 queue_rests k s kept rests =
     let own = queue_numbered k s kept in record {
       own = own;
@@ -271,7 +271,7 @@ module _ (k : Knowledge) (s new : CommandRoomState) (rests : Rests k s) (r : Ref
   refused_few : new.cells.bank.write_backs + unasked new.cells.bank.lines ≤ k.opened + 4 * length k.history
   refused_few = let f = rests.few in let w = r.same.write_backs in let u = unasked-same s.cells.bank new.cells.bank r.same in omega (arith, f, w, u)
 
-map_refused : (k : Knowledge) (s new : CommandRoomState) → IsKept k (Map s) → IsResting k (Map s) → IsMap new → Refuses s new → IsKept k (Map new) × IsResting k (Map new)
+map_refused : (k : Knowledge) (s new : CommandRoomState) → KeepsRoom k (Map s) → IsResting k (Map s) → IsMap new → Refuses s new → KeepsRoom k (Map new) × IsResting k (Map new)
 map_refused k s new kept was whole r =
     let rests = map_rests k s kept was in (
       map_kept k k.history k.now s new kept whole (refused_leaves k s new rests r) (r.history ∙ kept.history),
@@ -288,7 +288,7 @@ map_refused k s new kept was whole r =
       },
     )
 
-queue_refused : (k : Knowledge) (s new : CommandRoomState) → IsKept k (Queue s) → IsResting k (Queue s) → IsQueue new → Refuses s new → IsKept k (Queue new) × IsResting k (Queue new)
+queue_refused : (k : Knowledge) (s new : CommandRoomState) → KeepsRoom k (Queue s) → IsResting k (Queue s) → IsQueue new → Refuses s new → KeepsRoom k (Queue new) × IsResting k (Queue new)
 queue_refused k s new kept was whole r =
     let rests = queue_rests k s kept was in (
       queue_kept k k.history k.now s new kept whole (refused_leaves k s new rests r) (r.history ∙ kept.history),
@@ -321,7 +321,7 @@ module _ (was s new : CommandRoomState) (epoch : ℕ) (calls : MapCalls was s ne
   map_moves = record { has = tt; is = ap Map calls.is; lines = calls.lines; same_words = calls.words; whole = calls.whole }
 
   module _ (k : Knowledge) (i : IsInHand resting k (Map was)) where
-    map_kept_on : IsKept k (Map s)
+    map_kept_on : KeepsRoom k (Map s)
     map_kept_on = entered_kept (Map was) (Map s) epoch map_moves k i.kept
 
     map_rests_on : IsResting k (Map s)
@@ -365,7 +365,7 @@ module _ (was s new : CommandRoomState) (epoch : ℕ) (calls : QueueCalls was s 
   queue_moves = record { has = tt; is = ap Queue calls.is; lines = calls.lines; same_words = calls.words; whole = calls.whole }
 
   module _ (k : Knowledge) (i : IsInHand resting k (Queue was)) where
-    queue_kept_on : IsKept k (Queue s)
+    queue_kept_on : KeepsRoom k (Queue s)
     queue_kept_on = entered_kept (Queue was) (Queue s) epoch queue_moves k i.kept
 
     queue_rests_on : IsResting k (Queue s)

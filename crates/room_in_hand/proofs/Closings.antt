@@ -11,24 +11,17 @@ use Rattle.room_laws.proofs.Tests.{by_test}
 use Rattle.incll_var.specs.declared.state.CellState.{CellState}
 use Rattle.incll_var.specs.declared.state.CellState.TheVariants.{Torn, Running, Closing, Saved}
 use Rattle.incll_var.specs.Restore.{IsQuietCell}
-use Rattle.incll_var.specs.Cells.{CellBankState, IsCellIn, IsCellBank, MayClose, WritesOneBack, IsSavedIn, closing_state, epoch_of, with_state}
+use Rattle.incll_var.specs.Cells.{CellBankState, IsCellIn, IsCellBank, WritesOneBack, IsSavedIn, closing_state, epoch_of, with_state}
 use Rattle.planned_cells.specs.Planned.{memory_words_in, saved_cells, with_bank}
 use Rattle.rooms.specs.declared.room.Room.{Room}
 use Rattle.rooms.specs.declared.room.Room.TheVariants.{Map, Queue, Thread, Super}
 use Rattle.rooms.specs.Rooms.{bank_of, cells_of, state_of, with_cells, words_of, IsWhole, HasCells, lines_unasked}
 use Rattle.yard_model.specs.Homes.{IsFreeState, position_bound}
 use Rattle.room_in_hand.specs.Known.{Knowledge}
-use Rattle.room_in_hand.specs.InHand.{resting, flushing, flushed, shut, IsKept, IsResting, IsInHand}
+use Rattle.room_in_hand.specs.InHand.{resting, flushing, flushed, shut, KeepsRoom, IsResting, IsInHand}
 use Rattle.room_in_hand.specs.Events.{begun_use, written_use}
 use Rattle.room_in_hand.proofs.Moves.{Moves, cells_are, still_has, history_same, kept_on, resting_on, bound_on, bound_most, lt_true}
 use Rattle.seq_object.specs.Sizes.{sizes_of}
-
--- free cells may be closed
-pub free_may_close : (epoch : ℕ) (done : Bool) (state : CellState) → IsFreeState epoch done state → MayClose state
-free_may_close epoch done (Torn c) free = free
-free_may_close epoch done (Running c) free = tt
-free_may_close epoch done (Closing c) free = free
-free_may_close epoch done (Saved c) free = tt
 
 -- the cells of a room are cells, by its type
 pub are_cells : (x : Room) → HasCells x → IsWhole x → IsCellBank (cells_of x)
@@ -109,7 +102,7 @@ module _ (x y : Room) (n : ℕ) (m : Moves x y (with_state (cells_of x) (closing
     begins : HasBegun k.epoch k.closings n (state_of x)
     begins = has_begun k.epoch k.closings n (state_of x) was.used.1 saved_none
 
-    kept : IsKept k y
+    kept : KeepsRoom k y
     kept = kept_on x y (with_state (cells_of x) (closing_state n (state_of x))) m k was.kept (ap (memory_words k.epoch) bank_same) (subst (λ (b : BankState). k.opened ≤ b.write_backs) (sym bank_same) was.kept.no_fewer)
 
     still : IsResting k y
@@ -171,7 +164,7 @@ module _ (x y : Room) (bank : BankState) (m : Moves x y (with_bank (cells_of x) 
   count_is : (bank_of y).write_backs ≡ counted (bank_of x).write_backs
   count_is = ap (λ (b : BankState). b.write_backs) (bank_now ∙ one.is)
 
-  back_kept : IsKept k y
+  back_kept : KeepsRoom k y
   back_kept = kept_on x y (with_bank (cells_of x) bank) m k was.kept (same_memory k.epoch (cells_of x) (cells_of y) (ap epoch_of was.used.1) (ap epoch_of closes) memory)
       (let c = count_is in let l = counted-least k.opened (bank_of x).write_backs was.kept.no_fewer was.kept.counted in omega (arith, c, l))
 
@@ -219,7 +212,7 @@ module _ (x y : Room) (m : Moves x y (saved_cells (cells_of x))) (memory : memor
   none_unasked : lines_unasked y ≡ 0
   none_unasked = saved_unasked (cells_of y) k.epoch (are_cells y (still_has x y (saved_cells (cells_of x)) m) m.whole) saved_now
 
-  fence_kept : IsKept k y
+  fence_kept : KeepsRoom k y
   fence_kept = kept_on x y (saved_cells (cells_of x)) m k was.kept (same_memory k.epoch (cells_of x) (cells_of y) (ap epoch_of was.used.1) (ap epoch_of saved_now) memory)
       (let c = no_more in let l = was.kept.no_fewer in omega (arith, c, l))
 

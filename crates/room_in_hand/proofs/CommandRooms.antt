@@ -21,7 +21,7 @@ use Rattle.rooms.specs.declared.room.Room.TheVariants.{Map, Queue}
 use Rattle.rooms.specs.Rooms.{history_of, state_of}
 use Rattle.yard_model.specs.Homes.{free_bound, position_bound}
 use Rattle.room_in_hand.specs.Known.{Knowledge}
-use Rattle.room_in_hand.specs.InHand.{IsKept}
+use Rattle.room_in_hand.specs.InHand.{KeepsRoom}
 use Rattle.room_in_hand.proofs.Moves.{le_true}
 
 -- a room of commands of the number that is known
@@ -31,10 +31,10 @@ pub record IsNumbered (k : Knowledge) (s : CommandRoomState) : Type 0 where
   pub number : s.room ≡ k.room
   pub settings : s.settings ≡ k.settings
 
-pub map_numbered : (k : Knowledge) (s : CommandRoomState) → IsKept k (Map s) → IsNumbered k s
+pub map_numbered : (k : Knowledge) (s : CommandRoomState) → KeepsRoom k (Map s) → IsNumbered k s
 map_numbered k s was = record { whole = was.whole.room; low = (let l = was.room.kind.0 in omega (arith, l)); number = was.room.kind.1; settings = was.room.kind.2 }
 
-pub queue_numbered : (k : Knowledge) (s : CommandRoomState) → IsKept k (Queue s) → IsNumbered k s
+pub queue_numbered : (k : Knowledge) (s : CommandRoomState) → KeepsRoom k (Queue s) → IsNumbered k s
 queue_numbered k s was = record { whole = was.whole.room; low = (let l = was.room.kind.0 in omega (arith, l)); number = was.room.kind.1; settings = was.room.kind.2 }
 
 module _ (k : Knowledge) (s : CommandRoomState) (own : IsNumbered k s) where
@@ -69,8 +69,8 @@ same_lines : (s new : CommandRoomState) → IsCommandRoom s → IsCommandRoom ne
 same_lines s new was whole settings = whole.lines ∙ ap (λ z. z.lines) settings ∙ sym was.lines
 
 -- a map room of which so much is left is kept, with the history that it has now
-pub map_kept : (k : Knowledge) (h : List Noted) (now : Contents) (s new : CommandRoomState) → IsKept k (Map s) → IsMap new → Leaves k.epoch s new → new.history.entries ≡ h
-    → IsKept (record k { history = h; now = now }) (Map new)
+pub map_kept : (k : Knowledge) (h : List Noted) (now : Contents) (s new : CommandRoomState) → KeepsRoom k (Map s) → IsMap new → Leaves k.epoch s new → new.history.entries ≡ h
+    → KeepsRoom (record k { history = h; now = now }) (Map new)
 map_kept k h now s new was whole left history = record {
   whole = whole;
   room = record {
@@ -86,8 +86,8 @@ map_kept k h now s new was whole left history = record {
 }
 
 -- so is the queue room
-pub queue_kept : (k : Knowledge) (h : List Noted) (now : Contents) (s new : CommandRoomState) → IsKept k (Queue s) → IsQueue new → Leaves k.epoch s new → new.history.entries ≡ h
-    → IsKept (record k { history = h; now = now }) (Queue new)
+pub queue_kept : (k : Knowledge) (h : List Noted) (now : Contents) (s new : CommandRoomState) → KeepsRoom k (Queue s) → IsQueue new → Leaves k.epoch s new → new.history.entries ≡ h
+    → KeepsRoom (record k { history = h; now = now }) (Queue new)
 queue_kept k h now s new was whole left history = record {
   whole = whole;
   room = record {

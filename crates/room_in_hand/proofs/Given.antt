@@ -24,7 +24,7 @@ use Rattle.yard_model.specs.Homes.{IsFreeState, free_bound, position_bound}
 use Rattle.yard_model.specs.Views.{grip_on, gripped, taken_position, is_thread_room}
 use Rattle.yard_model.specs.Conditions.{behind, IsGiven}
 use Rattle.room_in_hand.specs.Known.{Knowledge, knows}
-use Rattle.room_in_hand.specs.InHand.{resting, IsKept, IsResting, IsWritingEpoch, IsInHand}
+use Rattle.room_in_hand.specs.InHand.{resting, KeepsRoom, IsResting, IsWritingEpoch, IsInHand}
 use Rattle.room_in_hand.specs.Laws.{IsOfItsType, GivenRestsLaw, GivenEpochLaw}
 use Rattle.room_in_hand.proofs.Moves.{rests_by_loads, below_super, le_false}
 
@@ -51,7 +51,7 @@ module _ (v : View) (r : ℕ) (x : Room) (covered : ℕ) (of_type : IsOfItsType 
   taken : (t : TakenPosition) → known.position ≡ Some t → t ≡ taken_position v.ran x
   taken t is = taken_is (is_thread_room (sizes_known v) r) (taken_position v.ran x) t is
 
-  pub kept : IsKept known x
+  pub kept : KeepsRoom known x
   kept = record {
     whole = of_type.whole;
     room = given.room;

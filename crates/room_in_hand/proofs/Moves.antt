@@ -25,7 +25,7 @@ use Rattle.rooms.specs.Rooms.{bank_of, cells_of, state_of, with_cells, words_of,
 use Rattle.rooms.proofs.Others.{other_cells, same_number, same_else}
 use Rattle.yard_model.specs.Homes.{free_bound, position_bound}
 use Rattle.room_in_hand.specs.Known.{Knowledge}
-use Rattle.room_in_hand.specs.InHand.{IsKept, IsResting}
+use Rattle.room_in_hand.specs.InHand.{KeepsRoom, IsResting}
 
 -- of cells that are not torn, and no store is left, the words are the loads
 words_are_loads : (state : CellState) (bank : BankState) (stores : List PlannedStore) → (IsTorn state → ⊥) → stores ≡ [] → words_in state bank stores ≡ bank_load bank
@@ -81,7 +81,7 @@ module _ (x y : Room) (cells : CellBankState) (m : Moves x y cells) where
   same_room s r is = subst (IsRoomOf s r) (sym m.is) (same_number s r x cells is (sym (ap (λ (c : CellBankState). length c.bank.lines) cells_are) ∙ m.lines))
 
   -- what is kept whatever it is used for
-  pub kept_on : (k : Knowledge) → IsKept k x → memory_words k.epoch (bank_of y) ≡ memory_words k.epoch (bank_of x) → k.opened ≤ (bank_of y).write_backs → IsKept k y
+  pub kept_on : (k : Knowledge) → KeepsRoom k x → memory_words k.epoch (bank_of y) ≡ memory_words k.epoch (bank_of x) → k.opened ≤ (bank_of y).write_backs → KeepsRoom k y
   kept_on k was memory no_fewer = record {
     whole = m.whole;
     room = same_room k.settings k.room was.room;

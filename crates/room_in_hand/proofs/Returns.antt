@@ -36,7 +36,7 @@ use Rattle.life_model.specs.Present.{LoadsFirstStores}
 use Rattle.yard_model.specs.Dead.{begun_by}
 use Rattle.yard_model.specs.Conditions.{behind, IsKeptRoom, IsFreeFor, IsDeadFor, MayUnlock, MayRetreat}
 use Rattle.room_in_hand.specs.Known.{knows}
-use Rattle.room_in_hand.specs.InHand.{resting, flushing, flushed, shut, writing_epoch, working, writing_point, IsKept, IsResting, IsWritingEpoch, WritesEpoch, epoch_write_backs}
+use Rattle.room_in_hand.specs.InHand.{resting, flushing, flushed, shut, writing_epoch, working, writing_point, KeepsRoom, IsResting, IsWritingEpoch, WritesEpoch, epoch_write_backs}
 use Rattle.room_in_hand.specs.Laws.{MayGoHomeLaw, MayBeGivenUpLaw}
 use Rattle.room_in_hand.proofs.Moves.{rests_by_loads, below_super, bound_most, le_false, lt_true}
 use Rattle.room_in_hand.proofs.Closings.{are_cells, counted_none}
@@ -85,7 +85,7 @@ free_dead epoch done closing (Saved c) may (inl lt) = inl lt
 free_dead epoch done closing (Saved c) may (inr t) = inr (t.0, may t.1)
 
 -- WHILE NOTHING IS UNDER WAY: a room of cells in hand.
-module _ (v : View) (g : Grip) (x : Room) (kept : IsKept (knows v g) x) (rests : IsResting (knows v g) x) (whole : IsTorn (state_of x) → ⊥) where
+module _ (v : View) (g : Grip) (x : Room) (kept : KeepsRoom (knows v g) x) (rests : IsResting (knows v g) x) (whole : IsTorn (state_of x) → ⊥) where
   abbrev z : Sizes
   z = sizes_known v
 
@@ -158,7 +158,7 @@ shut_goes_home v g x on phase held in_hand = record {
 quiet_none : (bank : BankState) → IsSuperRoom bank → (epoch_line bank).pending ≡ [] → unasked bank.lines ≡ 0
 quiet_none bank room none = counted_none is_unasked bank.lines (λ i lt. let one = room.one in let e : 0 ≡ i = omega (arith, lt, one) in subst (λ (k : ℕ). is_unasked (line_at bank.lines k) ≡ false) e (ap (λ (ss : List Store). nat_lt (epoch_line bank).asked (length ss)) none ∙ le-ltb (epoch_line bank).asked 0 (omega arith)))
 
-module _ (v : View) (g : Grip) (bank : BankState) (stage : EpochStage) (kept : IsKept (knows v g) (Super bank)) (writes : IsWritingEpoch stage (knows v g) bank) where
+module _ (v : View) (g : Grip) (bank : BankState) (stage : EpochStage) (kept : KeepsRoom (knows v g) (Super bank)) (writes : IsWritingEpoch stage (knows v g) bank) where
   number : g.room ≡ super_room (sizes_known v)
   number = kept.room.kind
 
@@ -210,7 +210,7 @@ module _ (v : View) (g : Grip) (bank : BankState) (stage : EpochStage) (kept : I
     epoch_word = λ _ k. survives stage writes.stands_at k;
   }
 
-module _ (v : View) (g : Grip) (bank : BankState) (on : v.saw_off ≡ false) (phase : v.phase ≡ Closing) (held : v.grip ≡ Some g) (kept : IsKept (knows v g) (Super bank)) (writes : IsWritingEpoch InMemory (knows v g) bank) where
+module _ (v : View) (g : Grip) (bank : BankState) (on : v.saw_off ≡ false) (phase : v.phase ≡ Closing) (held : v.grip ≡ Some g) (kept : KeepsRoom (knows v g) (Super bank)) (writes : IsWritingEpoch InMemory (knows v g) bank) where
   super_home : IsFreeRoom (sizes_known v) v.ran (write_backs_at v.beginning g.room) (closings_known v) true (behind v g.room (history_of (Super bank))) (behind v g.room (take g.covered g.history)) g.room (Super bank)
   super_home = record {
     safe = super_safe v g bank InMemory kept writes true;
@@ -244,7 +244,7 @@ epoch_goes_home v g (Super bank) on phase held in_hand = super_goes_home v g ban
 
 -- GIVEN UP.
 
-module _ (v : View) (g : Grip) (x : Room) (off : v.saw_off ≡ true) (phase : v.phase ≡ Closing) (held : v.grip ≡ Some g) (kept : IsKept (knows v g) x) where
+module _ (v : View) (g : Grip) (x : Room) (off : v.saw_off ≡ true) (phase : v.phase ≡ Closing) (held : v.grip ≡ Some g) (kept : KeepsRoom (knows v g) x) where
   cells_given_up : IsResting (knows v g) x → (IsTorn (state_of x) → ⊥) → IsDeadState v.ran true (state_of x) → MayRetreat v g x
   cells_given_up rests whole state = record {
     off = off;
@@ -257,7 +257,7 @@ module _ (v : View) (g : Grip) (x : Room) (off : v.saw_off ≡ true) (phase : v.
   closing_dead : state_of x ≡ ClosingCells v.ran → IsDeadState v.ran true (state_of x)
   closing_dead is = subst (λ (s : CellState). IsDeadState v.ran true s) (sym is) refl
 
-epoch_given_up : (v : View) (g : Grip) (x : Room) (stage : EpochStage) → v.saw_off ≡ true → v.grip ≡ Some g → IsKept (knows v g) x → WritesEpoch stage (knows v g) x → MayRetreat v g x
+epoch_given_up : (v : View) (g : Grip) (x : Room) (stage : EpochStage) → v.saw_off ≡ true → v.grip ≡ Some g → KeepsRoom (knows v g) x → WritesEpoch stage (knows v g) x → MayRetreat v g x
 epoch_given_up v g (Map x) stage off held kept writes = absurd writes
 epoch_given_up v g (Queue x) stage off held kept writes = absurd writes
 epoch_given_up v g (Thread x) stage off held kept writes = absurd writes

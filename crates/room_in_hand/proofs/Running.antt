@@ -37,7 +37,7 @@ use Rattle.yard_model.specs.Dead.{begun_by}
 use Rattle.yard_model.specs.Locks.{drawn_of}
 use Rattle.yard_model.specs.Conditions.{behind, IsKeptRoom, IsFreeFor, MayUnlock, MayRetreat}
 use Rattle.room_in_hand.specs.Known.{knows}
-use Rattle.room_in_hand.specs.InHand.{resting, flushing, flushed, shut, writing_epoch, working, writing_point, IsKept, IsResting, IsWorking, WorksAt, IsWritingPoint, WritesPoint}
+use Rattle.room_in_hand.specs.InHand.{resting, flushing, flushed, shut, writing_epoch, working, writing_point, KeepsRoom, IsResting, IsWorking, WorksAt, IsWritingPoint, WritesPoint}
 use Rattle.room_in_hand.specs.Laws.{IsEndOf, RestsGoesHomeLaw, PointGoesHomeLaw, RunnerGivesUpLaw, DrawnKnowsLaw}
 use Rattle.room_in_hand.proofs.Moves.{le_true, le_false, thread_bound}
 use Rattle.room_in_hand.proofs.Closings.{are_cells}
@@ -46,7 +46,7 @@ use Rattle.room_in_hand.proofs.Returns.{below, kept_room, stands_now, safe, is_g
 
 -- A ROOM OF COMMANDS THAT RESTS.
 
-module _ (v : View) (g : Grip) (x : Room) (kept : IsKept (knows v g) x) (rests : IsResting (knows v g) x) (state : IsFreeState v.ran false (state_of x)) where
+module _ (v : View) (g : Grip) (x : Room) (kept : KeepsRoom (knows v g) x) (rests : IsResting (knows v g) x) (state : IsFreeState v.ran false (state_of x)) where
   rests_free : IsFreeRoom (sizes_known v) v.ran (write_backs_at v.beginning g.room) (closings_known v) false (behind v g.room (history_of x)) (behind v g.room (take g.covered g.history)) g.room x
   rests_free = record {
     safe = safe v g x kept rests (free_whole v.ran false (state_of x) state) false (λ is. absurd (cc));
@@ -70,7 +70,7 @@ rests_goes_home v g x on phase held low i = record {
 
 -- A ROOM IN MID-WORK: its cells run.
 
-module _ (v : View) (g : Grip) (x : Room) (phase : v.phase ≡ Running) (kept : IsKept (knows v g) x) (has : HasCells x) (below_super : g.room < super_room (sizes_known v)) (state : state_of x ≡ RunningCells v.ran) where
+module _ (v : View) (g : Grip) (x : Room) (phase : v.phase ≡ Running) (kept : KeepsRoom (knows v g) x) (has : HasCells x) (below_super : g.room < super_room (sizes_known v)) (state : state_of x ≡ RunningCells v.ran) where
   running_kept : IsKeptRoom v g x
   running_kept = record {
     room = kept.room;
@@ -114,7 +114,7 @@ begun_next v g command phase next none =
 commands_bound : (z : Sizes) (closings r : ℕ) (x : Room) → r ≤ z.shards → dead_bound z closings r x ≡ 4 * length (history_of x)
 commands_bound z closings r x low = ap (λ (b : Bool). cond b (4 * length (history_of x)) (closings + 1)) (le_true r z.shards low)
 
-module _ (v : View) (g : Grip) (x : Room) (s : CommandRoomState) (under : UnderWay) (kept : IsKept (knows v g) x) (works : IsWorking under (knows v g) s) (phase : v.phase ≡ Running) (next : next_of v ≡ Some under.command) (none : g.drawn ≡ None) where
+module _ (v : View) (g : Grip) (x : Room) (s : CommandRoomState) (under : UnderWay) (kept : KeepsRoom (knows v g) x) (works : IsWorking under (knows v g) s) (phase : v.phase ≡ Running) (next : next_of v ≡ Some under.command) (none : g.drawn ≡ None) where
   first_stores : loads x ≡ bank_load s.cells.bank → LoadsFirstStores (sizes_known v) v.ran g.room (begun_by (not (is_none g.drawn)) (is_closing v.phase) (next_of v)) (loads x) (behind v g.room (history_of x))
   first_stores same = subst (λ (c : Option Command). LoadsFirstStores (sizes_known v) v.ran g.room c (loads x) (behind v g.room (history_of x))) (sym (begun_next v g under.command phase next none)) (record {
     before = works.before;
@@ -140,7 +140,7 @@ none_stores : (ss : List PlannedStore) → length ss ≡ 0 → ss ≡ []
 none_stores [] none = refl
 none_stores (s ∷ ss) none = absurd (omega (arith, none))
 
-module _ (v : View) (g : Grip) (t : ThreadRoomState) (point : RestartPoint) (end : ThreadEnd) (phase : v.phase ≡ Running) (kept : IsKept (knows v g) (Thread t)) (writes : IsWritingPoint point end (knows v g) t) where
+module _ (v : View) (g : Grip) (t : ThreadRoomState) (point : RestartPoint) (end : ThreadEnd) (phase : v.phase ≡ Running) (kept : KeepsRoom (knows v g) (Thread t)) (writes : IsWritingPoint point end (knows v g) t) where
   above : (sizes_known v).shards < g.room
   above = kept.room.kind.0
 
@@ -206,7 +206,7 @@ point_goes_home v g (Super bank) end on phase held own ends i left = absurd i.us
 -- GIVEN UP.
 
 works_given_up : (v : View) (g : Grip) (x : Room) (under : UnderWay) → v.saw_off ≡ true → v.phase ≡ Running → v.grip ≡ Some g → next_of v ≡ Some under.command → g.drawn ≡ None
-    → IsKept (knows v g) x → WorksAt under (knows v g) x → MayRetreat v g x
+    → KeepsRoom (knows v g) x → WorksAt under (knows v g) x → MayRetreat v g x
 works_given_up v g (Map s) under off phase held next none kept works =
     let low = kept.room.kind.0 in
     running_given_up v g (Map s) phase kept tt (omega (arith, low)) works.running off held (few_now v g (Map s) s under kept works phase next none refl (omega (arith, low))) (λ _. first_stores v g (Map s) s under kept works phase next none refl)
@@ -216,13 +216,13 @@ works_given_up v g (Queue s) under off phase held next none kept works =
 works_given_up v g (Thread t) under off phase held next none kept works = absurd works
 works_given_up v g (Super bank) under off phase held next none kept works = absurd works
 
-writes_given_up : (v : View) (g : Grip) (x : Room) (point : RestartPoint) (end : ThreadEnd) → v.saw_off ≡ true → v.phase ≡ Running → v.grip ≡ Some g → IsKept (knows v g) x → WritesPoint point end (knows v g) x → MayRetreat v g x
+writes_given_up : (v : View) (g : Grip) (x : Room) (point : RestartPoint) (end : ThreadEnd) → v.saw_off ≡ true → v.phase ≡ Running → v.grip ≡ Some g → KeepsRoom (knows v g) x → WritesPoint point end (knows v g) x → MayRetreat v g x
 writes_given_up v g (Map s) point end off phase held kept writes = absurd writes
 writes_given_up v g (Queue s) point end off phase held kept writes = absurd writes
 writes_given_up v g (Thread t) point end off phase held kept writes = point_given_up v g t point end phase kept writes off held
 writes_given_up v g (Super bank) point end off phase held kept writes = absurd writes
 
-rests_given_up : (v : View) (g : Grip) (x : Room) → v.saw_off ≡ true → v.grip ≡ Some g → IsKept (knows v g) x → IsResting (knows v g) x → (IsFreeState v.ran false (state_of x)) → MayRetreat v g x
+rests_given_up : (v : View) (g : Grip) (x : Room) → v.saw_off ≡ true → v.grip ≡ Some g → KeepsRoom (knows v g) x → IsResting (knows v g) x → (IsFreeState v.ran false (state_of x)) → MayRetreat v g x
 rests_given_up v g x off held kept rests state = record {
   off = off;
   held = held;

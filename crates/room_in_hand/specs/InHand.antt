@@ -44,7 +44,7 @@ pub data RoomUse : Type 0 where
   writing_point : RestartPoint → ThreadEnd → RoomUse
 
 -- What holds of it whatever it is used for: it has its history, and memory has of it what it had.
-pub record IsKept (k : Knowledge) (x : Room) : Type 0 where
+pub record KeepsRoom (k : Knowledge) (x : Room) : Type 0 where
   pub whole : IsWhole x
   pub room : IsRoomOf k.settings k.room x
   pub history : history_of x ≡ k.history
@@ -150,7 +150,7 @@ IsUsedAs (writing_point point end) k x = WritesPoint point end k x
 
 -- a room in hand
 pub record IsInHand (role : RoomUse) (k : Knowledge) (x : Room) : Type 0 where
-  pub kept : IsKept k x
+  pub kept : KeepsRoom k x
   pub used : IsUsedAs role k x
 
 -- so it is by what some holder knows of it

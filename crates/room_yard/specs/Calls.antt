@@ -26,6 +26,13 @@ pub record MayTryLeave (v : View) (end : ThreadEnd) : Type 0 where
   pub not_ended : end ≢ Ended
   pub next : next_of v ≢ None
 
+-- a word allows it to a thread of this end that last ran in this epoch
+pub record AllowsLeave (end : ThreadEnd) (ran word : ℕ) : Type 0 where
+  pub not_closing : (arrival_of word).closing ≡ false
+  pub not_over : (arrival_of word).over ≡ false
+  pub later : ran < (arrival_of word).epoch
+  pub allowed : leaves end (arrival_of word).fed ≡ true
+
 -- the word found forbids it: it shows closing or over, or no later epoch than the thread ran in, or a thread of this end may not leave
 abbrev pub ForbidsLeave : View → ThreadEnd → ℕ → Type 0
 ForbidsLeave v end word = ((arrival_of word).closing ≡ true)
@@ -36,6 +43,13 @@ pub record MayTryClaim (v : View) : Type 0 where
   pub on : v.saw_off ≡ false
   pub phase : v.phase ≡ Standing
   pub few_checkpoints : v.checkpoints < 2 ^ 19
+
+-- a word allows it to one of so many threads that last ran in this epoch
+pub record AllowsClaim (threads ran word : ℕ) : Type 0 where
+  pub all_stand : AllStand (arrival_of word).mask threads
+  pub not_closing : (arrival_of word).closing ≡ false
+  pub not_over : (arrival_of word).over ≡ false
+  pub epoch : (arrival_of word).epoch ≡ ran
 
 -- the word found forbids it: some thread does not stand, or it shows closing or over, or another epoch than the thread last ran in
 abbrev pub ForbidsClaim : View → ℕ → Type 0

@@ -7,7 +7,7 @@ use Rattle.script_text.specs.Program.{Turns, round_robin, seeded, listed, live}
 use Rattle.script_text.specs.Text.{AreTurns}
 use Rattle.script_text.specs.Schedules.{schedule_of, turn_count}
 use Rattle.script_text.proofs.ScheduleLaws.{turn_count_law, threads_named_law}
-use Rattle.turn_order.specs.Orders.{OrderState, first_turn, IsOrderOf, IsBehind}
+use Rattle.turn_order.specs.Orders.{OrderState, IsOrderOf, IsBehind}
 use Rattle.replay_model.specs.Replays.{ReplayState, is_over_in}
 use Rattle.replay_model.specs.Kept.{IsReplay}
 use Rattle.replay_progress.specs.Runs.{RunsKept}
@@ -40,14 +40,6 @@ pub record IsGoing (threads : ℕ) (turns : Turns) (since : ℕ) (s : ReplayStat
   pub beginning : now.yard.beginning ≡ s.yard.beginning
   pub number : length now.workers ≡ threads
   pub told : AreMarksOf marks now
-
--- an order of which none is given is one
-pub first_order : (threads : ℕ) (turns : Turns) (o : OrderState) → o ≡ first_turn threads o.words → IsOrderOf turns o → IsOrderIn threads turns o
-first_order threads turns o is order = record {
-  order = order;
-  same_threads = ap (λ (p : OrderState). p.threads) is;
-  given = let none : o.given ≡ 0 = ap (λ (p : OrderState). p.given) is in omega (arith, none);
-}
 
 -- so it is before the first of the turns that an order has left
 pub going_first : (threads : ℕ) (turns : Turns) (s : ReplayState) (o : OrderState) (marks : List Mark) → IsOrderIn threads turns o → IsReplay s → HaveDone 0 s → length s.workers ≡ threads → AreMarksOf marks s

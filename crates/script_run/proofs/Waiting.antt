@@ -17,7 +17,7 @@ use Rattle.yard_model.specs.Beginnings.{sizes_at, is_over}
 use Rattle.yard_model.specs.World.{YardState, Home}
 use Rattle.yard_model.specs.Outcomes.{NoneWaits, SomeWaits, ShowsEnd}
 use Rattle.plain_yard.specs.Shown.{ShownYard, IsLawfulYard, AreAtHome}
-use Rattle.script_run.specs.Ends.{is_waiting, waits_in, TellsWaiting, TellsWant, outcome_of}
+use Rattle.script_run.specs.Ends.{is_waiting, waits_in, TellsWaiting, outcome_of}
 
 -- an end that is one of waiting
 waits_where : (e : ThreadEnd) → is_waiting e ≡ true → e ≡ Waits
@@ -110,10 +110,3 @@ shows_end true over waits b w cs is tells = tt
 shows_end false false waits b w cs is tells = sym is
 shows_end false true true b w cs is tells = (sym is, tells)
 shows_end false true false b w cs is tells = (sym is, tells)
-
--- and it tells whether memory ran out
-pub tells_want : (dry over waits : Bool) → TellsWant dry (outcome_of dry over waits)
-tells_want true over waits = refl
-tells_want false false waits = refl
-tells_want false true true = refl
-tells_want false true false = refl

@@ -20,13 +20,13 @@ use Rattle.yard_model.specs.Steps.{checkpoint_at}
 use Rattle.yard_model.specs.Shares.{own_mark}
 use Rattle.yard_model.specs.Views.{grip_on, gripped, freed, retreated, left_in, stood, with_drawn, drew, claimed, entries_noted, looked, saw_power, ticked, turned_off}
 use Rattle.yard_model.specs.Conditions.{MayLeave, MayClaim, MayRelease}
-use Rattle.room_yard.specs.Calls.{room_held, MayTryLeave, MayTryClaim, ForbidsClaim, MayEndEpoch}
+use Rattle.room_yard.specs.Calls.{room_held, MayTryLeave, MayTryClaim, ForbidsClaim, MayEndEpoch, AllowsLeave, AllowsClaim}
 use Rattle.room_yard.specs.Answers.{next_word, ClaimRests, Locked, Unlocked, Retreated, Drew, Stood, SawPower}
 use Rattle.room_yard.proofs.Words.{claim_is_decided, next_word_shows}
 use Rattle.shared_yard.specs.declared.known.Known.{Known}
 use Rattle.shared_yard.specs.Rule.{one_known, one_view, with_view_of}
 use Rattle.shared_yard.specs.Plays.{SeatState, IsNow, TakesRoom, FindsHeld, with_release}
-use Rattle.shared_yard.specs.Hands.{IsHand, AllowsLeave, AllowsClaim, slots_out}
+use Rattle.shared_yard.specs.Hands.{IsHand, slots_out}
 
 abbrev room_or : Room → Option Room → Room
 room_or x None = x

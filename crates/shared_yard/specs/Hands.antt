@@ -1,9 +1,6 @@
--- What a handle remembers of what its thread knows, and what an arrival word allows.
+-- What a handle remembers of what its thread knows.
 use Rattle.std.specs.Prelude.{◌≡◌, ℕ, ◌<◌, ◌≤◌, Bool, true, false, List, [], ◌∷◌, length, Option, Some, None}
 use Rattle.seq_object.specs.Sizes.{room_count}
-use Rattle.restart_point.specs.declared.thread_end.ThreadEnd.{ThreadEnd}
-use Rattle.restart_point.specs.ArrivalWord.{arrival_of, AllStand}
-use Rattle.block_allow.specs.Verdicts.{leaves}
 use Rattle.rooms.specs.declared.room.Room.{Room}
 use Rattle.yard_model.specs.declared.view.Beginning.{Beginning}
 use Rattle.yard_model.specs.declared.view.Grip.{Grip}
@@ -32,17 +29,3 @@ pub record IsHand (m : SeatState) (b : Beginning) (thread : ℕ) (phase : Phase)
   pub off_is : off ≡ (one_view m.0).saw_off
   pub own_are : length (one_known m.0).own ≡ (one_view m.0).checkpoints  -- as many checkpoints as the view says
   pub slots : m.1 ≡ slots_out room
-
--- a thread of this end that last ran in this epoch may leave by this word
-pub record AllowsLeave (end : ThreadEnd) (ran word : ℕ) : Type 0 where
-  pub not_closing : (arrival_of word).closing ≡ false
-  pub not_over : (arrival_of word).over ≡ false
-  pub later : ran < (arrival_of word).epoch
-  pub allowed : leaves end (arrival_of word).fed ≡ true
-
--- a thread that last ran in this epoch may claim by this word
-pub record AllowsClaim (threads ran word : ℕ) : Type 0 where
-  pub all_stand : AllStand (arrival_of word).mask threads
-  pub not_closing : (arrival_of word).closing ≡ false
-  pub not_over : (arrival_of word).over ≡ false
-  pub epoch : (arrival_of word).epoch ≡ ran

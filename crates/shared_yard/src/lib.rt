@@ -51,7 +51,6 @@ mod rule;
 mod seat;
 mod shares;
 mod start;
-mod word;
 mod yard;
 
 pub use known::Known;

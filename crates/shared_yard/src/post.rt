@@ -16,11 +16,10 @@ use crate::plays::{
 };
 use crate::rule::TableSeat;
 use crate::seat::YardSeat;
-use crate::word::{allows_claim, allows_leave, word_of_epoch};
 use crate::yard::SharedYard;
 use life_model::Mark;
 use restart_point::{Arrival, ThreadEnd};
-use room_yard::{Held, HoldsLock, Post, Rest};
+use room_yard::{Held, HoldsLock, Post, Rest, allows_claim, allows_leave, word_of_epoch};
 use seq_object::Entry;
 use std::marker::{Brand, PhantomData};
 use yard_model::{Phase, Room};

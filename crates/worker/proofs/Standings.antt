@@ -26,7 +26,7 @@ use Rattle.coordinator.specs.Closers.{CloserState, IsCloser, BeginsToClose, new_
 use Rattle.worker_model.specs.declared.hand.Hand.{Hand}
 use Rattle.worker_model.specs.declared.hand.Hand.TheVariants.{Empty, Closes}
 use Rattle.worker_model.specs.declared.hand.Turn.{Turn}
-use Rattle.worker_model.specs.declared.hand.Turn.TheVariants.{Did, Rested, Waited, Over}
+use Rattle.worker_model.specs.declared.hand.Turn.TheVariants.{Did, Over}
 use Rattle.worker_model.specs.Counts.{when, epochs_run, may_claim, least_empty, most_empty}
 use Rattle.worker_model.specs.Workers.{WorkerState, IsWorker}
 use Rattle.worker_model.specs.Turns.{with_hand, did, left_behind, shows_over, ClaimsBy, Leaves, FindsOver, RestsAndClaims, GoesOnStanding}
@@ -368,16 +368,6 @@ module _ (c : WorkerState) (v : View) (t : Option Told) (may : MayTakeRow c Empt
         (subst (λ (h : Hand). IsWorker (record c { hand = h; spare = d.spare }) (turned_off v)) (sym may.taken) (turns_off d.spare)))
 
 -- WHAT A ROW CAME TO.
-
--- a claim of the worker with room made is one of the worker
-by_room : (c : WorkerState) (n : ℕ) (r : Turn) (v : View) (t : Option Told) (d : WorkerState) (w : View) (u : Option Told) → ClaimsBy (Ok r) (record c { spare = n }) v t d w u → ClaimsBy (Ok r) c v t d w u
-by_room c n Did v t d w u x = record { claimed = x.claimed; spare = x.spare; worker = x.worker }
-by_room c n (Rested rest) v t d w u x = record { rests = x.rests; shown = x.shown; worker = x.worker }
-by_room c n (Waited held) v t d w u x = x
-by_room c n Over v t d w u x = (x.0, record { rests = x.1.rests; shown = x.1.shown; worker = x.1.worker })
-
-pub claims_with_room : (c e : WorkerState) (r : Turn) (v : View) (t : Option Told) (d : WorkerState) (w : View) (u : Option Told) → e ≡ record c { spare = e.spare } → ClaimsBy (Ok r) e v t d w u → ClaimsBy (Ok r) c v t d w u
-claims_with_room c e r v t d w u is x = by_room c e.spare r v t d w u (subst (λ (k : WorkerState). ClaimsBy (Ok r) k v t d w u) is x)
 
 -- by the end that it told
 module _ (c : WorkerState) (v : View) (t : Option Told) (r : Result Turn AllocError) (d : WorkerState) (w : View) (u : Option Told) where

@@ -57,8 +57,8 @@ impl Model for Worker {
 }
 
 impl Worker {
-    /// The worker of a thread, which stands at this place of its script. `commands` is the whole script, of at most 4,096 commands. Want
-    /// of memory is the one refusal.
+    /// The worker of a thread, which stands at this place of its script. `commands` is the whole script, of at most 4,096 commands. It
+    /// is ready where a command is left, and at its script's end where none is. Want of memory is the one refusal.
     pub fn new(
         alloc: Global,
         thread: u32,

@@ -8,3 +8,13 @@ recovered-requires c = lived_lawful c.args.n 8 c.in_ok-outcome.outcome c.live_al
 
 pub summary_of-requires : goal.summary_of-requires
 summary_of-requires c = positions_few c.args.n 8 c.in_ok-outcome.outcome c.live_all.new.memory c.in_ok-found.found (c.in_ok-outcome.ensures).lived (c.in_ok-found.ensures)
+
+pub returns-clause-told : goal.returns-clause-told
+returns-clause-told c = record {
+  outcome = c.in_ok-outcome.outcome;
+  lived = (c.in_ok-outcome.ensures).lived;
+  fed = (c.in_ok-outcome.ensures).fed;
+  found = c.in_ok-found.found;
+  recovers = c.in_ok-found.ensures;
+  is = c.summary_of.ensures;
+}

@@ -48,7 +48,7 @@ world_is c =
     let epoch : c.epoch_in-epoch.result ≡ loaded_epoch (bank_of (last_of c.self.inside.rooms.items)) = c.epoch_in-epoch.ensures ∙ ap (λ (xs : List Room). loaded_epoch (bank_of (last_of xs))) c.as_slice.ensures.value in
     subst (λ (w : WorldState). IsWorldOf r c.args.lengths.now w) (sym c.of.ensures) (record {
       told = subst (λ (n : ℕ). AreTold c.self.inside.settings.shards c.args.lengths.now n c.self.inside.rooms.items c.tell_ends-over.new.rooms.items) many c.tell_ends-over.ensures.told;
-      arrival = c.word_of-arrival.ensures ∙ (λ j. next_word c.self.inside.settings.threads (over j) (fed j) (epoch j));
+      arrival = c.word_of_epoch-arrival.ensures ∙ (λ j. next_word c.self.inside.settings.threads (over j) (fed j) (epoch j));
       clock = refl;
       held = c.self.invariant.no_held;
     })
