@@ -20,7 +20,7 @@ use Rattle.room_model.specs.Formatted.{formatted, first_node}
 use Rattle.room_model.specs.Image.{ImageRooms, image_of, nothing_kept, lines_at, words_at, epoch_at, recovered_room, Recovers, IsFormatted}
 use Rattle.life_model.specs.Life.{Opening, sizes}
 use Rattle.life_model.specs.Crash.{LeavesCovered}
-use Rattle.life_laws.specs.ImageLaws.{FormattedImageLaw}
+use Rattle.life_laws.specs.ImageLaws.{FormattedRecoversLaw}
 use Rattle.life_laws.specs.LifeLaws.{StartSafeLaw, ResumeSafeLaw}
 use Rattle.life_laws.proofs.Chain.{first_at, length-first, after_nothing}
 use Rattle.room_laws.proofs.Words.{words}
@@ -179,7 +179,7 @@ module _ (layout : Layout) (is : IsLayout layout) (z : Sizes) (fits : layout.fir
   }
 
 -- both facts of a formatted image
-pub formatted_recovers : FormattedImageLaw
+pub formatted_recovers : FormattedRecoversLaw
 formatted_recovers layout z image is fits valid f = (first_epoch layout is z fits image valid f, recovers_first layout is z fits image valid f)
 
 -- the layout in use is one

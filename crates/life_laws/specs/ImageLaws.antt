@@ -56,6 +56,6 @@ RoomStandsLaw = (layout : Layout) (z : Sizes) (c : Contents) (h : List Entry) (r
     → StandsFor layout z room r (contents_at z (part_of z room c) (of_room z room h)) → StandsFor layout z room r (contents_at z c h)
 
 -- a formatted image recovers to the first state, and its epoch is 1
-abbrev pub FormattedImageLaw : Type 0
-FormattedImageLaw = (layout : Layout) (z : Sizes) (image : ImageRooms) → IsLayout layout → layout.first ≤ z.lines → AreValid z
+abbrev pub FormattedRecoversLaw : Type 0
+FormattedRecoversLaw = (layout : Layout) (z : Sizes) (image : ImageRooms) → IsLayout layout → layout.first ≤ z.lines → AreValid z
     → IsFormatted layout z image → (epoch_at z image ≡ 1) × Recovers layout z image (first_state z)

@@ -1,6 +1,6 @@
 //! The laws of images: what a power cut leaves of a memory, and the state that it recovers to.
 //! Each is the contract of a function that does nothing.
-ghost use Rattle.life_laws.specs.ImageLaws.{LinesLeftLaw, SameChoiceLaw, OneStateLaw, QuietLaw, StandsLaw, NextEpochLaw, RoomStandsLaw, FormattedImageLaw};
+ghost use Rattle.life_laws.specs.ImageLaws.{LinesLeftLaw, SameChoiceLaw, OneStateLaw, QuietLaw, StandsLaw, NextEpochLaw, RoomStandsLaw, FormattedRecoversLaw};
 
 /// An image has the rooms and lines of its memory, and each line is what the choice leaves of it.
 pub fn lines_left_law()
@@ -38,6 +38,6 @@ pub fn room_stands_law()
 {}
 
 /// A formatted image recovers to the first state, and its epoch is 1.
-pub fn formatted_image_law()
-    ensures { FormattedImageLaw }
+pub fn formatted_recovers_law()
+    ensures { FormattedRecoversLaw }
 {}
