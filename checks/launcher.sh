@@ -105,6 +105,10 @@ grep -q 'proving byte_ports, 1 of \([0-9]*\); ' err || fail "the first crate is 
 grep -q 'proving respct, \([0-9]*\) of \1; 0 left' err || fail "the last crate is not named: $(cat err)"
 ran again 0
 [ ! -s err ] || fail "a program that is current is no news: $(cat err)"
+for word in start resume check; do
+    status=$(run "$word" --image again)
+    [ "$status" = 4 ] && [ "$(cat out)" = "$room $word --image again"$'\n'text ] || fail "the word $word is not handed on: $status, $(cat err)"
+done
 sleep 1
 touch here/crates/*/src/*
 ran after_a_touch 0

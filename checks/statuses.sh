@@ -4,7 +4,7 @@
 #
 #     checks/statuses.sh crates/respct/out/respct
 #
-# 11 is not tried, since it needs memory that is refused. Each case holds for root too, who may open any
+# 11 needs memory that is refused: checks/refusals.py tries it, and more ways to each refusal. Each case holds for root too, who may open any
 # file: so the source that cannot be read is closed, or a folder, and the place for the image is in a folder that is not there.
 set -eu
 top=$(CDPATH='' cd -- "$(dirname -- "$0")/.." && pwd)
