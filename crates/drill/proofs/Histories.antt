@@ -115,19 +115,29 @@ named_below n [] none k d lt = absurd (omega arith)
 named_below n (e ∷ es) none zero d lt = ⊎_elim (λ (below : e.thread < n). below) (λ (le : n ≤ e.thread). absurd (some_own e es (none e.thread le))) (cases_lt e.thread n)
 named_below n (e ∷ es) none (suc k) d lt = named_below n es (λ t le. none_before t e es (none t le)) k d (omega arith)
 
+-- so the entries of a history of four threads are those of each
+pub entries_of_four : (h : List Entry) → ((t : ℕ) → 4 ≤ t → length (of_thread t h) ≡ 0)
+    → length h ≡ length (of_thread 0 h) + length (of_thread 1 h) + length (of_thread 2 h) + length (of_thread 3 h)
+entries_of_four h none =
+    let all : total (λ t. length (of_thread t h)) 4 ≡ length h = thread_count 4 h (named_below 4 h none) in
+    let sum : total (λ t. length (of_thread t h)) 4 ≡ 0 + length (of_thread 0 h) + length (of_thread 1 h) + length (of_thread 2 h) + length (of_thread 3 h) = refl in
+    omega (arith, all, sum)
+
+-- a thread past the last has no entry
+pub none_past : (scripts : Scripts) (place thread : ℕ) (own : List Entry) → length scripts ≤ thread → AreCommands (script_of scripts thread) place own → length own ≡ 0
+none_past scripts place thread own past are =
+    ap length (no_entries place own (subst (λ (script : List Command). AreCommands script place own) (get_or_past scripts thread [] past) are))
+
 -- a legal life of four threads with so few commands each draws few entries, where it goes on from places within its scripts
 pub entries_few : (o : Opening) (h : List Entry) (marks : List ℕ) (most : ℕ) → IsLegalLife o h marks → o.settings.threads ≡ 4
     → ((t : ℕ) → length (script_of o.scripts t) ≤ most) → ((t : ℕ) → t < 4 → opening_place o t ≤ length (script_of o.scripts t)) → length h ≤ 4 * most
 entries_few o h marks most legal four few places =
     let none : (t : ℕ) → 4 ≤ t → length (of_thread t h) ≡ 0 = λ t le.
-    let empty : script_of o.scripts t ≡ [] = get_or_past o.scripts t [] (omega (arith, legal.order.threads, four, le)) in
-    ap length (no_entries (opening_place o t) (of_thread t h) (subst (λ (script : List Command). AreCommands script (opening_place o t) (of_thread t h)) empty (legal.order.commands t))) in
+    none_past o.scripts (opening_place o t) t (of_thread t h) (omega (arith, legal.order.threads, four, le)) (legal.order.commands t) in
     let own : (t : ℕ) → t < 4 → length (of_thread t h) ≤ most = λ t lt.
     let within : opening_place o t + length (of_thread t h) ≤ length (script_of o.scripts t) = in_script (script_of o.scripts t) (opening_place o t) (of_thread t h) (legal.order.commands t) (places t lt) in
     omega (arith, within, few t) in
-    let all : total (λ t. length (of_thread t h)) 4 ≡ length h = thread_count 4 h (named_below 4 h none) in
-    let sum : total (λ t. length (of_thread t h)) 4 ≡ 0 + length (of_thread 0 h) + length (of_thread 1 h) + length (of_thread 2 h) + length (of_thread 3 h) = refl in
-    omega (arith, all, sum, own 0 (omega arith), own 1 (omega arith), own 2 (omega arith), own 3 (omega arith))
+    omega (arith, entries_of_four h none, own 0 (omega arith), own 1 (omega arith), own 2 (omega arith), own 3 (omega arith))
 
 -- EPOCHS
 

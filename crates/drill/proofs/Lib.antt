@@ -3,3 +3,4 @@ pub mod Texts
 pub mod Histories
 pub mod NextLives
 pub mod LifeCalls
+pub mod LastLife

@@ -5,6 +5,7 @@ use Rattle.std.specs.List.{All}
 use Rattle.std.specs.declared.alloc.AllocError.{AllocError}
 use Rattle.std.proofs.lemmas.List.Elements.{All-from_get_or}
 use Rattle.std.proofs.lemmas.List.Sums.{sum-map, sum_by-le}
+use Rattle.seq_object.specs.declared.history.Entry.{Entry}
 use Rattle.seq_object.specs.declared.history.RestartPoint.{RestartPoint}
 use Rattle.seq_object.specs.declared.settings.Settings.{Settings}
 use Rattle.seq_object.specs.declared.sizes.Sizes.{Sizes}
@@ -13,11 +14,12 @@ use Rattle.seq_object.specs.History.{State, after, first_state, first_point, of_
 use Rattle.line_memory.specs.Line.{BankState}
 use Rattle.room_model.specs.MapRoom.{live_layout}
 use Rattle.room_model.specs.Formatted.{formatted_memory}
-use Rattle.room_model.specs.Image.{ImageRooms, image_of, nothing_kept, HasRooms, IsLawful}
+use Rattle.room_model.specs.Image.{ImageRooms, image_of, nothing_kept, HasRooms, IsLawful, Recovers}
 use Rattle.life_model.specs.declared.life.Life.TheVariants.{Start}
 use Rattle.life_model.specs.declared.life.Outcome.{Outcome}
 use Rattle.life_model.specs.declared.life.Outcome.TheVariants.{Starved}
 use Rattle.life_model.specs.Life.{script_of}
+use Rattle.life_model.specs.Lives.{HasOneHistory}
 use Rattle.life_laws.proofs.States.{one_state}
 use Rattle.power_cut.specs.Cut.{choosing, quiet_memory}
 use Rattle.store_order.specs.declared.choice.Choice.{Choice}
@@ -94,20 +96,29 @@ lived_all n life outcome memory last lived = subst (λ (k : ℕ). HasLived n k o
 
 -- POSITIONS
 
--- what lives left recovers to positions that are together far below 2 to the 64
-pub positions_few : (n life : ℕ) (outcome : Outcome) (memory : List BankState) (found : Recovered) → HasLived n life outcome memory
-    → IsRecovered live_layout (sizes_of drill_settings) (image_of memory nothing_kept) found → sum found.positions.items < 2 ^ 64
-positions_few n life outcome memory found lived is =
+-- what lives left recovers to the state that one history left, with each thread behind its entries
+pub places_held : (n life : ℕ) (outcome : Outcome) (memory : List BankState) (state : State) → HasLived n life outcome memory
+    → Recovers live_layout (sizes_of drill_settings) (image_of memory nothing_kept) state
+    → (h : List Entry) × HasOneHistory (sizes_of drill_settings) (drill_commands n) (image_of memory nothing_kept) h
+    × ((thread : ℕ) → thread < 4 → (point_at state.points thread).position ≡ length (of_thread thread h))
+places_held n life outcome memory state lived lawful =
     let z : Sizes = sizes_of drill_settings in
     let image : ImageRooms = image_of memory nothing_kept in
     let held : HoldsHistory drill_settings (drill_commands n) image =
     subst (λ (m : List BankState). HoldsHistory drill_settings (drill_commands n) (image_of m nothing_kept)) lived.left (lives_hold n lived.last lived.before nothing_kept lived.lives) in
-    let same : is.state ≡ after z (first_state z) held.0 = one_state live_layout z image is.state (after z (first_state z) held.0) is.lawful held.1.recovers in
+    let same : state ≡ after z (first_state z) held.0 = one_state live_layout z image state (after z (first_state z) held.0) lawful held.1.recovers in
+    (held.0, held.1, λ thread lt. ap (λ (s : State). (point_at s.points thread).position) same ∙ place_behind z held.0 thread lt)
+
+-- to positions that are together far below 2 to the 64
+pub positions_few : (n life : ℕ) (outcome : Outcome) (memory : List BankState) (found : Recovered) → HasLived n life outcome memory
+    → IsRecovered live_layout (sizes_of drill_settings) (image_of memory nothing_kept) found → sum found.positions.items < 2 ^ 64
+positions_few n life outcome memory found lived is =
+    let z : Sizes = sizes_of drill_settings in
+    let held = places_held n life outcome memory is.state lived is.lawful in
     let many : length is.state.points ≡ 4 = is.lawful.threads in
     let each : (i : ℕ) → i < length is.state.points → (point_at is.state.points i).position ≤ 200 = λ i lt.
-    let place : (point_at is.state.points i).position ≡ length (of_thread i held.0) =
-    ap (λ (s : State). (point_at s.points i).position) same ∙ place_behind z held.0 i (subst (λ (k : ℕ). i < k) many lt) in
-    let within : length (of_thread i held.0) ≤ length (script_of (drill_commands n) i) = place_within z (drill_commands n) image held.0 i held.1 in
+    let place : (point_at is.state.points i).position ≡ length (of_thread i held.0) = held.2 i (subst (λ (k : ℕ). i < k) many lt) in
+    let within : length (of_thread i held.0) ≤ length (script_of (drill_commands n) i) = place_within z (drill_commands n) (image_of memory nothing_kept) held.0 i held.1 in
     omega (arith, place, within, scripts_few n i) in
     let all : All (λ (p : RestartPoint). p.position ≤ 200) is.state.points = All-from_get_or (λ (p : RestartPoint). p.position ≤ 200) is.state.points first_point each in
     let total : sum_by (λ (p : RestartPoint). p.position) is.state.points ≤ length is.state.points * 200 = sum_by-le (λ (p : RestartPoint). p.position) 200 is.state.points all in

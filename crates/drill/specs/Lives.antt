@@ -1,5 +1,6 @@
 -- The lives of a drill, one after another, and its summary.
 use Rattle.std.specs.Prelude.{◌≡◌, ◌≢◌, ℕ, zero, suc, ◌≤◌, ◌⊎◌, List, [], ◌∷◌, length}
+use Rattle.seq_object.specs.declared.history.Entry.{Entry}
 use Rattle.seq_object.specs.Sizes.{sizes_of}
 use Rattle.line_memory.specs.Line.{BankState}
 use Rattle.room_model.specs.MapRoom.{live_layout}
@@ -10,6 +11,7 @@ use Rattle.life_model.specs.declared.life.Life.TheVariants.{Start, Resume}
 use Rattle.life_model.specs.declared.life.Outcome.{Outcome}
 use Rattle.life_model.specs.declared.life.Outcome.TheVariants.{Starved}
 use Rattle.life_model.specs.Life.{Opening, lengths}
+use Rattle.life_model.specs.Lives.{HasOneHistory}
 use Rattle.life_model.specs.Told.{ReportState, TellsOf}
 use Rattle.power_cut.specs.Cut.{choosing, quiet_memory}
 use Rattle.image_check.specs.declared.recovered.Recovered.{Recovered}
@@ -74,6 +76,13 @@ pub record HasLived (n life : ℕ) (outcome : Outcome) (memory : List BankState)
 -- what want of memory leaves of a drill: no memory, or what one of its lives left, with the lives before it
 abbrev pub IsLeftAtWant : ℕ → List BankState → Type 0
 IsLeftAtWant n memory = (memory ≡ []) ⊎ (life : ℕ) × (life ≤ 8) × ((outcome : Outcome) × HasLived n life outcome memory)
+
+-- a memory holds all commands of a drill: without what is pending in it, it recovers to what one history left, in which each thread's entries
+-- are its commands from the first on, and which has an entry for each of the 800
+pub record HoldsAllCommands (n : ℕ) (memory : List BankState) : Type 0 where
+  pub history : List Entry
+  pub is : HasOneHistory (sizes_of drill_settings) (drill_commands n) (image_of memory nothing_kept) history
+  pub all : length history ≡ 800
 
 -- a summary tells of the nine lives of a drill: memory ran out in none that is told of, and it is that of the state to which the memory that
 -- the last one left recovers without what is pending in it

@@ -1,11 +1,11 @@
 //! The nine lives of a drill: a start over formatted memory, and eight resumes, each from the image that the cut behind the life before leaves.
 
-ghost use Rattle.std.specs.Prelude.{◌≡◌, ◌≢◌, ◌⊎◌, ◌+◌, ◌<◌, ◌≤◌, [], IfOk, OnErr};
+ghost use Rattle.std.specs.Prelude.{◌≡◌, ◌≢◌, ◌⊎◌, ◌+◌, ◌<◌, ◌≤◌, [], IfOk, OnOk, OnErr};
 ghost use Rattle.seq_object.specs.Sizes.{sizes_of};
 ghost use Rattle.room_model.specs.MapRoom.{live_layout};
 ghost use Rattle.room_model.specs.Image.{image_of, nothing_kept, IsLawful};
 ghost use Rattle.life_model.specs.declared.life.Outcome.{Outcome};
-ghost use Rattle.life_model.specs.declared.life.Outcome.TheVariants.{Starved};
+ghost use Rattle.life_model.specs.declared.life.Outcome.TheVariants.{Finished, Starved};
 ghost use Rattle.power_cut.specs.Cut.{choosing};
 ghost use Rattle.power_cut.specs.Image.{rooms_in, IsWhole};
 ghost use Rattle.image_check.specs.Recovered.{IsRecovered};
@@ -14,7 +14,7 @@ ghost use Rattle.script_text.specs.Schedules.{AreScheduled};
 ghost use Rattle.script_text.specs.Text.{HasText};
 ghost use Rattle.script_run.specs.Jobs.{IsReady};
 ghost use Rattle.drill.specs.Scripts.{drill_settings, drill_commands, drill_choice, drill_program};
-ghost use Rattle.drill.specs.Lives.{kind_of_life, drill_memory, memory_behind, HasLived, IsLivedOver, IsLeftAtWant, IsSummaryOf};
+ghost use Rattle.drill.specs.Lives.{kind_of_life, drill_memory, memory_behind, HasLived, IsLivedOver, IsLeftAtWant, HoldsAllCommands, IsSummaryOf};
 
 use crate::scripts::{LAST_LIFE, drill_script, keep_behind, settings};
 use crate::summary::{Summary, summary_of};
@@ -29,10 +29,14 @@ use std::alloc::{AllocError, Global};
 use store_order::Choice;
 
 /// Runs the drill of this number, and sums up what is left. `memory` is given up first, and is then what the last life left, whatever is
-/// pending in it; the summary is that of its base. Want of memory is the one refusal, also where a life meets it: `memory` is then empty, or
-/// what the last life left that was begun.
+/// pending in it; the summary is that of its base. Its last life is finished, and all 800 commands are kept. Want of memory is the one
+/// refusal, also where a life meets it: `memory` is then empty, or what the last life left that was begun.
 pub fn run_drill(alloc: Global, n: u64, memory: &mut Memory) -> Result<Summary, AllocError>
     ensures told { IfOk result (λ summary. IsSummaryOf n memory.new summary) }
+    // the last life has turns enough, so no command is left undone
+    ensures kept { IfOk result (λ summary. (summary.kept ≡ 800) × (summary.outcome ≡ Finished)) }
+    // and what is left is what one history of all commands leaves
+    ensures held { OnOk result (HoldsAllCommands n memory.new) }
     ensures refused { OnErr result (IsLeftAtWant n memory.new) }
 {
     let outcome = live_all(alloc, n, memory)?;
