@@ -93,7 +93,8 @@ ran() {
 
 grep -qF "\"$usage\"" "$top/crates/respct/src/status.rt" || fail 'the program has another text for words that it refuses'
 for words in '' help --help Start --image --unproved 'start extra' 'start --image' 'start --image=' 'start --image -x' 'start --image=-x' \
-    'start --image a b' 'resume --image' 'check --image' 'drill 7' '--unproved drill'; do
+    'start --image a b' 'resume --image' 'check --image' drill 'drill x' 'drill 01' 'drill +1' 'drill -1' 'drill 1 2' 'drill --image x' \
+    'drill 18446744073709551616' 'drill 100000000000000000000' '--unproved drill'; do
     # shellcheck disable=SC2086
     status=$(run $words)
     [ "$status" = 1 ] && [ "$(cat err)" = "$usage" ] && [ ! -s out ] && [ ! -s calls ] || fail "the words '$words' are not refused at once"
@@ -105,9 +106,10 @@ grep -q 'proving byte_ports, 1 of \([0-9]*\); ' err || fail "the first crate is 
 grep -q 'proving respct, \([0-9]*\) of \1; 0 left' err || fail "the last crate is not named: $(cat err)"
 ran again 0
 [ ! -s err ] || fail "a program that is current is no news: $(cat err)"
-for word in start resume check; do
-    status=$(run "$word" --image again)
-    [ "$status" = 4 ] && [ "$(cat out)" = "$room $word --image again"$'\n'text ] || fail "the word $word is not handed on: $status, $(cat err)"
+for words in start resume 'resume --image a' 'check --image=a' 'drill 0' 'drill 7' 'drill 18446744073709551615'; do
+    # shellcheck disable=SC2086
+    status=$(run $words)
+    [ "$status" = 4 ] && [ "$(cat out)" = "$room $words"$'\n'text ] || fail "the words '$words' are not handed on: $status"
 done
 sleep 1
 touch here/crates/*/src/*

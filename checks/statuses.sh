@@ -110,6 +110,20 @@ ended 'a check of a file that is no image' 5 '' /dev/null short
 run check --image nothing
 ended 'a check of a name with nothing under it' 10 '' /dev/null
 
+block docs/formats.md 'drill 1' 1 >summary
+run drill 1 <folder
+ended 'a drill, which reads nothing' 0 '' summary
+run drill 1 <script
+ended 'the same drill again' 0 '' summary
+sink=/dev/full run drill 1
+ended 'a drill with standard output full' 8 '' /dev/null
+run drill 01
+ended 'a drill with a zero in front of its number' 1 '' /dev/null
+run drill 18446744073709551616
+ended 'a drill with a number of more than 64 bits' 1 '' /dev/null
+run drill
+ended 'a drill without a number' 1 '' /dev/null
+
 # A resume over this script, from a copy of what one put left, or of another file. The copy is the image that is left.
 resume() {
     keeps=${2-kept}

@@ -35,7 +35,7 @@ use Rattle.respct.specs.Run.{script_limit, HasRead, Led, IsLed}
 use Rattle.respct.specs.Answers.{IsOfLifeUnlessStarved, IsGoneOn, LeadsOn, IsCarriedOut, IsDecided, IsNoScript, TookTooMuch, IsOnlyLoaded}
 use Rattle.respct.specs.Steps.{Ports}
 use Rattle.respct.proofs.Loads.{one_image, one_fault_law}
-use Rattle.respct.proofs.Naming.{one_form, one_life}
+use Rattle.respct.proofs.Naming.{one_form, no_drill_led, one_life}
 use Rattle.respct.proofs.Telling.{Told}
 
 -- BY THE SOURCE.
@@ -197,7 +197,8 @@ module _ (life : Life) (words : List (List ℕ)) (name : List ℕ) (old new : Po
   pub decides : (Rose old.read_faults new.read_faults → ⊥) → (Rose old.image_faults new.image_faults → ⊥) → (Rose old.write_faults new.write_faults → ⊥) → (status : Status) → Told words old new memory status
       → IsDecided life old.kept name bytes status
   decides reading storing writing statuses.Finished (inl t) = led_decides statuses.Finished (inl refl) t.0 t.1 t.2
-  decides reading storing writing statuses.Finished (inr t) = absurd (one_form life words name t.0 ask t.1)
+  decides reading storing writing statuses.Finished (inr (inl t)) = absurd (one_form life words name t.0 ask t.1)
+  decides reading storing writing statuses.Finished (inr (inr t)) = absurd (no_drill_led life words name t.0 ask t.1)
   decides reading storing writing statuses.Usage t = absurd t
   decides reading storing writing (statuses.Script f) t = fault_decides life old.kept name bytes old.left new.left f told t.0
   decides reading storing writing statuses.Stalled t = led_decides statuses.Stalled (inr (inl refl)) t.0 t.1 t.2

@@ -1,3 +1,4 @@
+pub mod Numerals
 pub mod Naming
 pub mod Replies
 pub mod Entries
@@ -10,6 +11,7 @@ pub mod Saves
 pub mod Loads
 pub mod Misfits
 pub mod Openings
+pub mod Following
 pub mod Steps
 pub mod Telling
 pub mod Deciding

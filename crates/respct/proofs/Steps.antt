@@ -7,18 +7,20 @@ use Rattle.byte_ports.specs.declared.refusal.StoreRefusal.{StoreRefusal}
 use Rattle.byte_ports.specs.declared.refusal.StoreRefusal.TheVariants as stores
 use Rattle.line_memory.specs.Line.{BankState}
 use Rattle.seq_object.specs.Sizes.{sizes_of}
-use Rattle.room_model.specs.Image.{ImageRooms as Rooms, image_of}
+use Rattle.room_model.specs.Image.{ImageRooms as Rooms, HasRooms, image_of}
 use Rattle.life_model.specs.declared.life.Life.{Life}
 use Rattle.life_model.specs.Life.{Opening}
 use Rattle.life_model.specs.Told.{ReportState}
 use Rattle.power_cut.specs.Cut.{choosing}
+use Rattle.power_cut.specs.Image.{AreWhole}
 use Rattle.power_cut.specs.Bytes.{image_bytes_of}
 use Rattle.script_text.specs.declared.script.Script.{Script}
 use Rattle.script_text.specs.Program.{Program, program_of}
-use Rattle.respct.specs.Run.{HasRead, HasSaved}
+use Rattle.respct.specs.Run.{HasRead, IsLed, HasSaved}
 use Rattle.respct.specs.Openings.{IsOpened}
 use Rattle.respct.specs.Steps.{Ports, HasCause, HasLed, IsReportOver}
 use Rattle.respct.proofs.Openings.{led_by, is_led}
+use Rattle.respct.proofs.Following.{has_rooms_led}
 
 -- the cause of a refusal, where a fault has one
 pub cause_of : (refusal : StoreRefusal) (faults faults_now : ℕ) → (refusal ≡ stores.Failed → Rose faults faults_now) → HasCause refusal faults faults_now
@@ -39,10 +41,16 @@ pub has_led : (life : Life) (name : List ℕ) (old new : Ports) (p : Program) (b
 has_led life name old new p before r memory read is over = record { life_is = refl; named = refl; is_led = is_led life old.left new.left old.kept name p before r memory read is over }
 
 -- its image is saved, over what the store kept before it was opened
-pub has_saved : (life : Life) (name : List ℕ) (kept between after : Option Named) (script : Script) (image : Rooms) (o : Opening) (r : ReportState) (memory : List BankState) → between ≡ kept
+pub has_saved : (life : Life) (name : List ℕ) (kept between after : Option Named) (left rest : Option (List ℕ)) (script : Script) (image : Rooms) (o : Opening) (r : ReportState) (memory : List BankState) → between ≡ kept
+    → IsLed left rest kept memory (led_by life name (program_of script) image o r)
+    → (HasRooms (sizes_of script.settings) memory → AreWhole (sizes_of script.settings) (image_of memory (choosing script.keep memory)))
     → SetsName between after name (image_bytes_of (sizes_of script.settings) (image_of memory (choosing script.keep memory))) → HasSaved kept after memory (led_by life name (program_of script) image o r)
-has_saved life name kept between after script image o r memory same set =
-    record { keep = script.keep; kept = refl; set = subst (λ (k : Option Named). SetsName k after name (image_bytes_of (sizes_of script.settings) (image_of memory (choosing script.keep memory)))) same set }
+has_saved life name kept between after left rest script image o r memory same led whole set = record {
+  keep = script.keep;
+  kept = refl;
+  whole = whole (has_rooms_led left rest kept memory (led_by life name (program_of script) image o r) led);
+  set = subst (λ (k : Option Named). SetsName k after name (image_bytes_of (sizes_of script.settings) (image_of memory (choosing script.keep memory)))) same set;
+}
 
 -- no other name changed since then
 pub others_since : (name : List ℕ) (kept between after : Option Named) → between ≡ kept → OthersSame between after name → OthersSame kept after name

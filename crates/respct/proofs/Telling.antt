@@ -1,4 +1,4 @@
--- From a life and a check to what their statuses tell.
+-- From a life, a check and a drill to what their statuses tell.
 use Rattle.std.proofs.Common.{◌≡◌, ℕ, List, [], length, Option, Some, None, Result, Ok, Err, inl, inr, refl, ap, sym, subst}
 use Rattle.std.specs.Prelude.{◌⊎◌, IfOk, OnOk, IfErr}
 use Rattle.std.proofs.lemmas.List.{append-nil}
@@ -17,6 +17,8 @@ use Rattle.script_text.specs.Program.{Program}
 use Rattle.script_text.specs.ReportText.{report_bytes}
 use Rattle.respct.specs.declared.checking.NotChecked.{NotChecked}
 use Rattle.respct.specs.declared.checking.NotChecked.TheVariants as checks
+use Rattle.respct.specs.declared.drilling.NotDrilled.{NotDrilled}
+use Rattle.respct.specs.declared.drilling.NotDrilled.TheVariants as drills
 use Rattle.respct.specs.declared.leading.NoReport.{NoReport}
 use Rattle.respct.specs.declared.leading.NoReport.TheVariants.{Unread, Unopened, Untold, Unsaved, Unwritten}
 use Rattle.respct.specs.declared.loading.NotLoaded.TheVariants as images
@@ -25,18 +27,19 @@ use Rattle.respct.specs.declared.opening.NotOpened.TheVariants as openings
 use Rattle.respct.specs.declared.reading.NoScript.TheVariants as scripts
 use Rattle.respct.specs.declared.status.Status.{Status}
 use Rattle.respct.specs.declared.status.Status.TheVariants as statuses
-use Rattle.respct.specs.Words.{IsResume, IsCheck, AskFor}
-use Rattle.respct.specs.Status.{status_of_end, status_of_unopened, status_of_life, status_of_check}
+use Rattle.respct.specs.Words.{IsResume, IsCheck, IsDrill, AskFor}
+use Rattle.respct.specs.Status.{status_of_end, status_of_unopened, status_of_life, status_of_check, status_of_drill}
 use Rattle.respct.specs.Loads.{IsFaulty}
 use Rattle.respct.specs.Openings.{IsMisfit}
 use Rattle.respct.specs.Run.{Led, HasRead, IsLed, HasSaved}
 use Rattle.respct.specs.declared.answer.PlainAnswer.TheVariants.{Ended}
-use Rattle.respct.specs.Answers.{IsUntouched, IsNoLife, IsOnlyLoaded, IsNoScript, TookTooMuch, status_in}
+use Rattle.respct.specs.Answers.{IsUntouched, IsNoLife, IsOnlyLoaded, IsNoScript, TookTooMuch, IsUnlessStarved, status_in}
 use Rattle.respct.specs.Steps.{Ports, HasLed, HasReported, IsUnopened, IsUnreported}
 use Rattle.respct.specs.Checks.{HasChecked, HasCheckedSome, IsUnchecked}
+use Rattle.respct.specs.Drills.{HasDrilled, HasDrilledSome, IsDrillStarved, IsApart, IsUndrilled}
 use Rattle.respct.proofs.Saves.{others_set}
 
--- WHAT THE STATUSES OF A LIFE AND OF A CHECK TELL.
+-- WHAT THE STATUSES OF A LIFE, OF A CHECK AND OF A DRILL TELL.
 
 -- a life was led that ended so, its image is saved, and its whole report was appended
 abbrev pub IsToldAs : Outcome → List (List ℕ) → Ports → Ports → List BankState → Type 0
@@ -61,6 +64,14 @@ IsLedInPart words old new memory =
 abbrev pub IsCheckedInPart : List (List ℕ) → Ports → Ports → List BankState → Type 0
 IsCheckedInPart words old new memory = (name : List ℕ) × IsCheck words name × HasCheckedSome old.kept name old.held new.held × IsNoLife old.left new.left old.kept new.kept memory
 
+-- the whole text of the state was appended
+abbrev pub IsCheckedWhole : List (List ℕ) → Ports → Ports → List BankState → Type 0
+IsCheckedWhole words old new memory = (name : List ℕ) × IsCheck words name × HasChecked old.kept name old.held new.held × IsNoLife old.left new.left old.kept new.kept memory
+
+-- a drill told this of what it left in memory and of what was written, and used neither script nor images
+abbrev pub IsDrillTold : (ℕ → List BankState → Option (List ℕ) → Option (List ℕ) → Type 0) → List (List ℕ) → Ports → Ports → List BankState → Type 0
+IsDrillTold Tells words old new memory = (n : ℕ) × IsDrill words n × Tells n memory old.held new.held × IsApart old.left new.left old.kept new.kept
+
 abbrev IsUntouchedIn : Ports → Ports → List BankState → Type 0
 IsUntouchedIn old new memory = IsUntouched old.held new.held old.kept new.kept memory
 
@@ -70,7 +81,7 @@ IsOnlyLoadedIn words name old new memory = IsOnlyLoaded words name old.left new.
 -- what each status tells
 abbrev pub Told : List (List ℕ) → Ports → Ports → List BankState → Status → Type 0
 Told words old new memory statuses.Finished =
-    IsToldAs ends.Finished words old new memory ⊎ ((name : List ℕ) × IsCheck words name × HasChecked old.kept name old.held new.held × IsNoLife old.left new.left old.kept new.kept memory)
+    IsToldAs ends.Finished words old new memory ⊎ (IsCheckedWhole words old new memory ⊎ IsDrillTold HasDrilled words old new memory)
 Told words old new memory statuses.Usage = ⊥
 Told words old new memory (statuses.Script f) = IsNoScript old.left new.left f × IsUntouchedIn old new memory
 Told words old new memory statuses.Stalled = IsToldAs ends.Stalled words old new memory
@@ -78,10 +89,12 @@ Told words old new memory statuses.Cut = IsToldAs ends.Cut words old new memory
 Told words old new memory (statuses.Image f) = (name : List ℕ) × IsFaulty old.kept name f × IsOnlyLoadedIn words name old new memory
 Told words old new memory (statuses.Misfit m) = (name : List ℕ) × IsResume words name × ((p : Program) × HasRead old.left new.left p × IsMisfit old.kept name p m) × IsUntouchedIn old new memory
 Told words old new memory statuses.ReadFault = Rose old.read_faults new.read_faults × TookSome old.left new.left × IsUntouchedIn old new memory
-Told words old new memory statuses.WriteFault = Rose old.write_faults new.write_faults × (IsToldInPart words old new memory ⊎ IsCheckedInPart words old new memory)
+Told words old new memory statuses.WriteFault =
+    Rose old.write_faults new.write_faults × (IsToldInPart words old new memory ⊎ (IsCheckedInPart words old new memory ⊎ IsDrillTold HasDrilledSome words old new memory))
 Told words old new memory statuses.StoreFault = Rose old.image_faults new.image_faults × (IsLedUnsaved words old new memory ⊎ ((name : List ℕ) × IsOnlyLoadedIn words name old new memory))
 Told words old new memory statuses.NoImage = (name : List ℕ) × Finds old.kept name None × IsOnlyLoadedIn words name old new memory
-Told words old new memory statuses.OutOfMemory = (TookSome old.left new.left × IsUntouchedIn old new memory) ⊎ (IsLedInPart words old new memory ⊎ IsCheckedInPart words old new memory)
+Told words old new memory statuses.OutOfMemory =
+    (TookSome old.left new.left × IsUntouchedIn old new memory) ⊎ (IsLedInPart words old new memory ⊎ (IsCheckedInPart words old new memory ⊎ IsDrillTold IsDrillStarved words old new memory))
 Told words old new memory statuses.TooLong = TookTooMuch old.left new.left × TookSome old.left new.left × IsUntouchedIn old new memory
 
 -- WHAT WAS APPENDED.
@@ -170,14 +183,24 @@ took_none (Some left) = ([], refl)
 pub check_tells : (words : List (List ℕ)) (name : List ℕ) (old new : Ports) (memory : List BankState) → IsCheck words name → new.left ≡ old.left → new.kept ≡ old.kept → memory ≡ [] → (result : Result (Unit {0}) NotChecked)
     → OnOk result (HasChecked old.kept name old.held new.held)
     → IfErr result (IsUnchecked old.kept name old.image_faults new.image_faults old.write_faults new.write_faults old.held new.held) → Told words old new memory (status_of_check result)
-check_tells words name old new memory check left kept none (Ok done) o u = inr (name, check, o, record { left_same = left; kept_same = kept; memory_is = none })
+check_tells words name old new memory check left kept none (Ok done) o u = inr (inl (name, check, o, record { left_same = left; kept_same = kept; memory_is = none }))
 check_tells words name old new memory check left kept none (Err (checks.Unloaded images.Failed)) o u = (u.0, inr (name, inl (check, u.1, record { left_same = left; kept_same = kept; memory_is = none })))
 check_tells words name old new memory check left kept none (Err (checks.Unloaded images.Missing)) o u = (name, u.0, inl (check, u.1, record { left_same = left; kept_same = kept; memory_is = none }))
 check_tells words name old new memory check left kept none (Err (checks.Unloaded (images.Fault f))) o u = (name, u.0, inl (check, u.1, record { left_same = left; kept_same = kept; memory_is = none }))
 check_tells words name old new memory check left kept none (Err (checks.Unloaded images.OutOfMemory)) o u =
     inl (subst (λ (l : Option (List ℕ)). TookSome old.left l) (sym left) (took_none old.left), record { held_same = u.1; kept_same = kept; memory_is = none })
-check_tells words name old new memory check left kept none (Err (checks.Unwritten stores.Failed)) o u = (u.0, inr (name, check, u.1, record { left_same = left; kept_same = kept; memory_is = none }))
-check_tells words name old new memory check left kept none (Err (checks.Unwritten stores.OutOfMemory)) o u = inr (inr (name, check, u.1, record { left_same = left; kept_same = kept; memory_is = none }))
+check_tells words name old new memory check left kept none (Err (checks.Unwritten stores.Failed)) o u = (u.0, inr (inl (name, check, u.1, record { left_same = left; kept_same = kept; memory_is = none })))
+check_tells words name old new memory check left kept none (Err (checks.Unwritten stores.OutOfMemory)) o u = inr (inr (inl (name, check, u.1, record { left_same = left; kept_same = kept; memory_is = none })))
+
+-- OF A DRILL.
+
+-- what the status of a drill tells, which uses neither script nor images
+pub drill_tells : (words : List (List ℕ)) (n : ℕ) (old new : Ports) (memory : List BankState) → IsDrill words n → new.left ≡ old.left → new.kept ≡ old.kept → (result : Result (Unit {0}) NotDrilled)
+    → OnOk result (HasDrilled n memory old.held new.held) → IfErr result (IsUndrilled n memory old.held new.held old.write_faults new.write_faults) → Told words old new memory (status_of_drill result)
+drill_tells words n old new memory drill left kept (Ok done) o u = inr (inr (n, drill, o, record { left_same = left; kept_same = kept }))
+drill_tells words n old new memory drill left kept (Err drills.Untold) o u = inr (inr (inr (n, drill, inl u, record { left_same = left; kept_same = kept })))
+drill_tells words n old new memory drill left kept (Err (drills.Unwritten stores.Failed)) o u = (u.0, inr (inr (n, drill, u.1, record { left_same = left; kept_same = kept })))
+drill_tells words n old new memory drill left kept (Err (drills.Unwritten stores.OutOfMemory)) o u = inr (inr (inr (n, drill, inr u.1, record { left_same = left; kept_same = kept })))
 
 -- THE STATUS.
 
@@ -191,6 +214,20 @@ pub check_status : (words : List (List ℕ)) (name : List ℕ) (old new : Ports)
     → OnOk result (HasChecked old.kept name old.held new.held)
     → IfErr result (IsUnchecked old.kept name old.image_faults new.image_faults old.write_faults new.write_faults old.held new.held) → (status : Status) → status ≡ status_of_check result → Told words old new memory status
 check_status words name old new memory check left kept none result o u status is = subst (Told words old new memory) (sym is) (check_tells words name old new memory check left kept none result o u)
+
+-- a status that is that of a drill
+pub drill_status : (words : List (List ℕ)) (n : ℕ) (old new : Ports) (memory : List BankState) → IsDrill words n → new.left ≡ old.left → new.kept ≡ old.kept → (result : Result (Unit {0}) NotDrilled)
+    → OnOk result (HasDrilled n memory old.held new.held) → IfErr result (IsUndrilled n memory old.held new.held old.write_faults new.write_faults) → (status : Status) → status ≡ status_of_drill result
+    → Told words old new memory status
+drill_status words n old new memory drill left kept result o u status is = subst (Told words old new memory) (sym is) (drill_tells words n old new memory drill left kept result o u)
+
+-- which statuses a drill has
+pub drill_ends : (n : ℕ) (memory : List BankState) (held held_now : Option (List ℕ)) (faults faults_now : ℕ) (result : Result (Unit {0}) NotDrilled) → IfErr result (IsUndrilled n memory held held_now faults faults_now)
+    → (status : Status) → status ≡ status_of_drill result → ((status ≡ statuses.WriteFault) × Rose faults faults_now) ⊎ IsUnlessStarved statuses.Finished status
+drill_ends n memory held held_now faults faults_now (Ok done) u status is = inr (inl is)
+drill_ends n memory held held_now faults faults_now (Err drills.Untold) u status is = inr (inr is)
+drill_ends n memory held held_now faults faults_now (Err (drills.Unwritten stores.Failed)) u status is = inl (is, u.0)
+drill_ends n memory held held_now faults faults_now (Err (drills.Unwritten stores.OutOfMemory)) u status is = inr (inr is)
 
 -- the same status in an answer
 pub answered : (words : List (List ℕ)) (old new : Ports) (memory : List BankState) (status other : Status) → Told words old new memory status → Ended status ≡ Ended other → Told words old new memory other

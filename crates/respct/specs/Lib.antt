@@ -8,3 +8,5 @@ pub mod Answers
 pub mod Steps
 pub mod Enough
 pub mod Checks
+pub mod Drills
+pub mod Runs

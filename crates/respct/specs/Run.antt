@@ -10,6 +10,7 @@ use Rattle.life_model.specs.Life.{Opening, lengths}
 use Rattle.life_model.specs.Told.{ReportState, TellsOf}
 use Rattle.store_order.specs.declared.choice.Choice.{Choice}
 use Rattle.power_cut.specs.Cut.{choosing}
+use Rattle.power_cut.specs.Image.{AreWhole}
 use Rattle.power_cut.specs.Bytes.{image_bytes_of}
 use Rattle.script_text.specs.Program.{Program, keeping_of}
 use Rattle.script_text.specs.Text.{text_of}
@@ -57,8 +58,9 @@ pub record IsLed (left rest : Option (List ℕ)) (kept : Option Named) (memory :
   pub closes : ClosesFew led.opening led.report.entries (lengths led.report.marks)
   pub within : HasReportText led.report
 
--- the image that the script's choice leaves of this memory is kept under the life's name now, and no other name has changed
+-- the image that the script's choice leaves of this memory is whole and kept under the life's name now, and no other name has changed
 pub record HasSaved (before after : Option Named) (memory : List BankState) (led : Led) : Type 0 where
   pub keep : Choice
   pub kept : keeping_of keep ≡ led.program.keep
+  pub whole : AreWhole (sizes_of led.program.settings) (image_of memory (choosing keep memory))
   pub set : SetsName before after led.name (image_bytes_of (sizes_of led.program.settings) (image_of memory (choosing keep memory)))

@@ -8,6 +8,8 @@ use Rattle.power_cut.specs.FaultText.{fault_text}
 use Rattle.script_text.specs.Faults.{kind_text}
 use Rattle.respct.specs.declared.checking.NotChecked.{NotChecked}
 use Rattle.respct.specs.declared.checking.NotChecked.TheVariants as checks
+use Rattle.respct.specs.declared.drilling.NotDrilled.{NotDrilled}
+use Rattle.respct.specs.declared.drilling.NotDrilled.TheVariants as drills
 use Rattle.respct.specs.declared.leading.NoReport.{NoReport}
 use Rattle.respct.specs.declared.leading.NoReport.TheVariants.{Unread, Unopened, Untold, Unsaved, Unwritten}
 use Rattle.respct.specs.declared.loading.NotLoaded.{NotLoaded}
@@ -117,3 +119,10 @@ status_of_check (Ok done) = Finished
 status_of_check (Err (checks.Unloaded refusal)) = status_of_unloaded refusal
 status_of_check (Err (checks.Unwritten stores.Failed)) = WriteFault
 status_of_check (Err (checks.Unwritten stores.OutOfMemory)) = OutOfMemory
+
+-- the status of a drill
+abbrev pub status_of_drill : Result (Unit {0}) NotDrilled → Status
+status_of_drill (Ok done) = Finished
+status_of_drill (Err drills.Untold) = OutOfMemory
+status_of_drill (Err (drills.Unwritten stores.Failed)) = WriteFault
+status_of_drill (Err (drills.Unwritten stores.OutOfMemory)) = OutOfMemory

@@ -1,5 +1,6 @@
 -- The words after the program's name.
-use Rattle.std.specs.Prelude.{◌≡◌, ◌≢◌, ◌⊎◌, ℕ, List, [], ◌∷◌, ◌++◌, codes}
+use Rattle.std.specs.Prelude.{◌≡◌, ◌≢◌, ◌⊎◌, ℕ, ◌<◌, ◌^◌, List, [], ◌∷◌, ◌++◌, codes}
+use Rattle.std.specs.Fmt.{decimal}
 use Rattle.life_model.specs.declared.life.Life.{Life}
 use Rattle.life_model.specs.declared.life.Life.TheVariants.{Start, Resume}
 use Rattle.respct.specs.declared.words.Form.{Form}
@@ -40,13 +41,20 @@ abbrev pub AskFor : Life → List (List ℕ) → List ℕ → Type 0
 AskFor Start words name = IsStart words name
 AskFor Resume words name = IsResume words name
 
+-- the words of the drill of this number, which has 64 bits and is spelled as digits with no zero in front but in `0` itself
+pub record IsDrill (words : List (List ℕ)) (n : ℕ) : Type 0 where
+  pub words_are : words ≡ codes "drill" ∷ decimal n ∷ []
+  pub has_64_bits : n < 2 ^ 64
+
 -- these are the words of a form
 abbrev pub AreWordsOf : List (List ℕ) → Form → Type 0
 AreWordsOf words (forms.Lead life image) = AskFor life words image.now
 AreWordsOf words (forms.Check image) = IsCheck words image.now
+AreWordsOf words (forms.Drill number) = IsDrill words number
 
 -- the words are those of no form
 pub record AreOfNoForm (words : List (List ℕ)) : Type 0 where
   pub no_start : (name : List ℕ) → IsStart words name → ⊥
   pub no_resume : (name : List ℕ) → IsResume words name → ⊥
   pub no_check : (name : List ℕ) → IsCheck words name → ⊥
+  pub no_drill : (n : ℕ) → IsDrill words n → ⊥

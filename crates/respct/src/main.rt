@@ -1,19 +1,23 @@
-//! respct: carries out a script of map and queue commands on simulated persistent memory, and reports what was done; and judges the images
-//! that a power cut left.
+//! respct: carries out a script of map and queue commands on simulated persistent memory, and reports what was done; judges the images that a
+//! power cut left; and runs drills, which are nine lives of one memory, made from a number.
 #![tactic(auto)]
 
 mod answer;
 mod checking;
+mod drilling;
 mod fitting;
 mod leading;
 mod living;
 mod loading;
 mod opening;
 mod reading;
+pub mod runs;
 mod saving;
 mod status;
 #[cfg(test)]
 mod tests;
+#[cfg(test)]
+mod tests_drills;
 #[cfg(test)]
 mod tests_images;
 #[cfg(test)]

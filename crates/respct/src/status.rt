@@ -1,9 +1,10 @@
 //! How a call of the program ends, and the code and the text that tell it.
 
 ghost use Rattle.std.specs.Prelude.{◌≡◌, ◌↔◌, IsTrue};
-ghost use Rattle.respct.specs.Status.{code_of, status_of_end, status_of_unread, status_of_unloaded, status_of_unopened, status_of_refusal, status_of_life, status_of_check, IsRefusal};
+ghost use Rattle.respct.specs.Status.{code_of, status_of_end, status_of_unread, status_of_unloaded, status_of_unopened, status_of_refusal, status_of_life, status_of_check, status_of_drill, IsRefusal};
 
 use crate::checking::NotChecked;
+use crate::drilling::NotDrilled;
 use crate::fitting::Misfit;
 use crate::leading::NoReport;
 use crate::loading::NotLoaded;
@@ -18,7 +19,7 @@ use std::fmt;
 /// How a call of the program ended.
 #[derive(Clone, Copy, Debug, PartialEq, Eq)]
 pub enum Status {
-    /// All scripts are used.
+    /// All scripts are used; or a check or a drill has written its text.
     Finished,
     /// The words after the program's name are none of the forms.
     Usage,
@@ -66,6 +67,18 @@ impl Status {
             Err(NotChecked::Unloaded(refusal)) => Status::of_unloaded(refusal),
             Err(NotChecked::Unwritten(StoreRefusal::Failed)) => Status::WriteFault,
             Err(NotChecked::Unwritten(StoreRefusal::OutOfMemory)) => Status::OutOfMemory,
+        }
+    }
+
+    /// The status of a drill.
+    pub fn of_drill(ended: Result<(), NotDrilled>) -> Status
+        ensures { result ≡ status_of_drill ended }
+    {
+        match ended {
+            Ok(()) => Status::Finished,
+            Err(NotDrilled::Unwritten(StoreRefusal::Failed)) => Status::WriteFault,
+            Err(NotDrilled::Untold) | Err(NotDrilled::Unwritten(StoreRefusal::OutOfMemory)) =>
+                Status::OutOfMemory,
         }
     }
 

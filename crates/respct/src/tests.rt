@@ -64,7 +64,7 @@ impl Script {
 const REPORT_HEAD: &str = "respct-report 1\nlife start\nbegan 1\n";
 
 /// The words of a call, which stand between single spaces.
-fn words_in(alloc: Global, words: &str) -> Result<Vec<String>, AllocError> {
+pub(crate) fn words_in(alloc: Global, words: &str) -> Result<Vec<String>, AllocError> {
     let mut list = Vec::new(alloc);
     for word in words.split_whitespace() {
         list.push(String::from_str(alloc, word)?)?;
@@ -491,9 +491,21 @@ pub(crate) fn told(
     text: Vec<u8>,
     images: &mut MemoryImages,
 ) -> Result<(Status, Vec<u8>), AllocError> {
+    told_with(rt, words, text, images, &[], &[])
+}
+
+/// The same, where these calls of the source and of the sink fail, each counted from 1.
+pub(crate) fn told_with(
+    rt: HostRuntime,
+    words: &str,
+    text: Vec<u8>,
+    images: &mut MemoryImages,
+    reads: &[u64],
+    writes: &[u64],
+) -> Result<(Status, Vec<u8>), AllocError> {
     let words = words_in(rt.alloc(), words)?;
-    let mut source = MemorySource::new(text, Vec::new(rt.alloc()));
-    let mut sink = MemorySink::new(rt.alloc(), Vec::new(rt.alloc()));
+    let mut source = MemorySource::new(text, Vec::from_slice(rt.alloc(), reads)?);
+    let mut sink = MemorySink::new(rt.alloc(), Vec::from_slice(rt.alloc(), writes)?);
     let mut memory = Memory::empty(rt.alloc());
     let status = respct(&rt, &words, &mut source, images, &mut sink, &mut memory);
     Ok((status, Vec::from_slice(rt.alloc(), sink.bytes())?))

@@ -2,7 +2,7 @@
 
 use crate::fitting::{Misfit, MisfitKind};
 use crate::status::Status;
-use crate::tests::{DEFAULT_NAME, ONE_PUT, Script, line_of, told};
+use crate::tests::{DEFAULT_NAME, ONE_PUT, Script, line_of, told, told_with};
 use byte_ports::{Images, MemoryImages};
 use power_cut::ImageFault;
 use std::alloc::{AllocError, Global};
@@ -228,6 +228,63 @@ fn a_store_that_fails(rt: HostRuntime) -> Result<(), Fail> {
         assert_eq!(rt; written.len(), 0);
     }
     Ok(())
+}
+
+/// Each read of a resume fails in turn: nothing is written, and the image stays as it was. Of the two reads the second tells that the
+/// source has no more.
+#[test]
+fn a_source_that_fails(rt: HostRuntime) -> Result<(), Fail> {
+    for read in [1, 2] {
+        let mut images = left_of_one_put(rt, 44)?;
+        let before = image_in(rt.alloc(), &images)?;
+        let (ended, written) = one_put(rt, &mut images, &[read], &[])?;
+        assert_eq!(rt; ended, Status::ReadFault);
+        assert_eq!(rt; written.len(), 0);
+        assert!(rt;
+            image_in(rt.alloc(), &images)? == before,
+            "the image is as before"
+        );
+    }
+    Ok(())
+}
+
+/// The write of a resume's report fails: nothing is written, and the image is that of the life.
+#[test]
+fn a_sink_that_fails(rt: HostRuntime) -> Result<(), Fail> {
+    let mut images = left_of_one_put(rt, 44)?;
+    let (ended, written) = one_put(rt, &mut images, &[], &[1])?;
+    assert_eq!(rt; ended, Status::WriteFault);
+    assert_eq!(rt; written.len(), 0);
+    let mut whole = left_of_one_put(rt, 44)?;
+    let (ended, _written) = one_put(rt, &mut whole, &[], &[])?;
+    assert_eq!(rt; ended, Status::Finished);
+    assert!(rt;
+        image_in(rt.alloc(), &images)? == image_in(rt.alloc(), &whole)?,
+        "the image is saved"
+    );
+    Ok(())
+}
+
+/// A resume of one put over these images, where these calls of the source and of the sink fail.
+fn one_put(
+    rt: HostRuntime,
+    images: &mut MemoryImages,
+    reads: &[u64],
+    writes: &[u64],
+) -> Result<(Status, Vec<u8>), AllocError> {
+    let script = Script {
+        turns: 70,
+        keep: "all",
+        ..ONE_PUT
+    };
+    told_with(
+        rt,
+        "resume",
+        script.text(rt.alloc())?,
+        images,
+        reads,
+        writes,
+    )
 }
 
 /// Four threads of eight commands each, with these turns.

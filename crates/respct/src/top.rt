@@ -1,5 +1,5 @@
-//! The top call: the words; of a life the script, the image from which a resume goes on, the life and its report; and of a check the image and
-//! the state that it recovers to.
+//! The top call: the words; of a life the script, the image from which a resume goes on, the life and its report; of a check the image and the
+//! state that it recovers to; and of a drill its nine lives and their summary.
 
 ghost use Rattle.std.specs.Prelude.{◌≡◌, ◌⊎◌, ◌↔◌, ℕ, List, [], map, None, Some};
 ghost use Rattle.std.specs.FinMap.{get};
@@ -16,16 +16,18 @@ ghost use Rattle.respct.specs.declared.fitting.Misfit.{Misfit as FirstMisfit};
 ghost use Rattle.respct.specs.declared.status.Status.TheVariants.{Finished, Usage, Script, Stalled, Cut, Image, Misfit, ReadFault, WriteFault};
 ghost use Rattle.respct.specs.declared.status.Status.TheVariants.{StoreFault, NoImage, OutOfMemory, TooLong};
 ghost use Rattle.respct.specs.declared.answer.PlainAnswer.TheVariants.{Ended};
-ghost use Rattle.respct.specs.Words.{IsResume, IsCheck, AskFor, AreOfNoForm};
+ghost use Rattle.respct.specs.Words.{IsResume, IsCheck, IsDrill, AskFor, AreOfNoForm};
 ghost use Rattle.respct.specs.Openings.{IsMisfit};
 ghost use Rattle.respct.specs.Run.{Led, HasRead, IsLed, HasSaved};
 ghost use Rattle.respct.specs.Loads.{IsFaulty};
 ghost use Rattle.respct.specs.Checks.{HasChecked, HasCheckedSome};
+ghost use Rattle.respct.specs.Drills.{HasDrilled, HasDrilledSome, IsDrillStarved, IsApart};
 ghost use Rattle.respct.specs.Enough.{IsInTime};
-ghost use Rattle.respct.specs.Answers.{IsUntouched, IsNoLife, IsOnlyLoaded, IsNoScript, TookTooMuch, IsDecided, LeadsCheckTo, status_in};
+ghost use Rattle.respct.specs.Answers.{IsUntouched, IsNoLife, IsOnlyLoaded, IsNoScript, TookTooMuch, IsUnlessStarved, IsDecided, LeadsCheckTo, status_in};
 
 use crate::answer::PlainAnswer;
 use crate::checking::check;
+use crate::drilling::drill;
 use crate::leading::lead;
 use crate::status::Status;
 use crate::words::{Form, form_of};
@@ -38,10 +40,12 @@ use std::alloc::Global;
 /// The program: does what the words say, and answers how it ended.
 ///
 /// `words` are those after the program's name: `start`, `resume` or `check`, with `--image NAME` or `--image=NAME` where the image is not to be
-/// `respct.image`. Of a start and a resume the script is read from `script`, the image of the life saved in `images`, and then the report
-/// written to `report`. A resume loads the image that `images` has under that name before, and goes on from it. A check loads the image, and
-/// writes the text of the state that it recovers to to `report`. `memory` is handed in empty, and is what the life left, or empty where no
-/// life began or memory ran out before the life was told.
+/// `respct.image`; or `drill` and a number of 64 bits. Of a start and a resume the script is read from `script`, the image of the life saved
+/// in `images`, and then the report written to `report`. A resume loads the image that `images` has under that name before, and goes on from
+/// it. A check loads the image, and writes the text of the state that it recovers to to `report`. A drill lives the nine lives of its number,
+/// and writes the text of their summary to `report`; it uses neither `script` nor `images`. `memory` is handed in empty, and is what the life
+/// left, or the last one of a drill, or empty where no life began or memory ran out before the life was told. Where memory runs out in the
+/// lives of a drill, it is empty or what one of them left.
 pub fn respct<R: AllocGlobal, S: Source, G: Images, W: Sink>(
     rt: &R,
     words: &[String],
@@ -53,12 +57,14 @@ pub fn respct<R: AllocGlobal, S: Source, G: Images, W: Sink>(
     requires { memory.old ≡ [] }
 
     // 0: a life was led to its end, its image is saved, and its whole report was appended; or of a check, the image under the name is lawful,
-    // the text of the state that it recovers to was appended, and nothing else was done.
+    // the text of the state that it recovers to was appended, and nothing else was done; or of a drill, its nine lives were lived, the text of
+    // their summary was appended, and memory is what the last one left.
     ensures finished { result ≡ Finished → ((led : Led) × AskFor led.life (map string_bytes words.now) led.name
         × IsLed (S.left script.old) (S.left script.new) (G.kept images.old) memory.new led
         × HasSaved (G.kept images.old) (G.kept images.new) memory.new led
         × Appended (W.held report.old) (W.held report.new) (report_bytes led.report) × (led.report.outcome ≡ ends.Finished))
-        ⊎ ((name : List ℕ) × IsCheck (map string_bytes words.now) name × HasChecked (G.kept images.old) name (W.held report.old) (W.held report.new) × IsNoLife (S.left script.old) (S.left script.new) (G.kept images.old) (G.kept images.new) memory.new) }
+        ⊎ (((name : List ℕ) × IsCheck (map string_bytes words.now) name × HasChecked (G.kept images.old) name (W.held report.old) (W.held report.new) × IsNoLife (S.left script.old) (S.left script.new) (G.kept images.old) (G.kept images.new) memory.new)
+        ⊎ ((n : ℕ) × IsDrill (map string_bytes words.now) n × HasDrilled n memory.new (W.held report.old) (W.held report.new) × IsApart (S.left script.old) (S.left script.new) (G.kept images.old) (G.kept images.new))) }
 
     // 3: a life was led until it stalled, with each thread at its script's end or before a take of the empty queue, and one before a take; its
     // image is saved, and its whole report was appended.
@@ -113,23 +119,26 @@ pub fn respct<R: AllocGlobal, S: Source, G: Images, W: Sink>(
         ⊎ ((name : List ℕ) × IsOnlyLoaded (map string_bytes words.now) name (S.left script.old) (S.left script.new) (W.held report.old) (W.held report.new) (G.kept images.old) (G.kept images.new) memory.new)) }
 
     // 8: the sink failed: after a life was led and its image saved, and a first part of its report was appended; or of a check, and a first part of
-    // the text of the state was appended.
+    // the text of the state was appended; or of a drill, and a first part of the text of its summary was.
     ensures unwritten { result ≡ WriteFault → Rose (W.count report.old) (W.count report.new)
         × (((led : Led) × AskFor led.life (map string_bytes words.now) led.name
         × IsLed (S.left script.old) (S.left script.new) (G.kept images.old) memory.new led
         × HasSaved (G.kept images.old) (G.kept images.new) memory.new led
         × AppendedSome (W.held report.old) (W.held report.new) (report_bytes led.report))
-        ⊎ ((name : List ℕ) × IsCheck (map string_bytes words.now) name × HasCheckedSome (G.kept images.old) name (W.held report.old) (W.held report.new) × IsNoLife (S.left script.old) (S.left script.new) (G.kept images.old) (G.kept images.new) memory.new)) }
+        ⊎ (((name : List ℕ) × IsCheck (map string_bytes words.now) name × HasCheckedSome (G.kept images.old) name (W.held report.old) (W.held report.new) × IsNoLife (S.left script.old) (S.left script.new) (G.kept images.old) (G.kept images.new) memory.new)
+        ⊎ ((n : ℕ) × IsDrill (map string_bytes words.now) n × HasDrilledSome n memory.new (W.held report.old) (W.held report.new) × IsApart (S.left script.old) (S.left script.new) (G.kept images.old) (G.kept images.new)))) }
 
     // 11: memory ran out. No life is told and nothing was done but that some bytes were taken; or a life was led, what is under its image's
-    // name is open, and a first part of its report was appended; or a first part of the text of the state that a check found was appended.
+    // name is open, and a first part of its report was appended; or a first part of the text of the state that a check found was appended; or of
+    // a drill, in its lives, and nothing was appended, or behind them, and a first part of the text of their summary was.
     ensures starved { result ≡ OutOfMemory
         → (TookSome (S.left script.old) (S.left script.new) × IsUntouched (W.held report.old) (W.held report.new) (G.kept images.old) (G.kept images.new) memory.new)
         ⊎ (((led : Led) × AskFor led.life (map string_bytes words.now) led.name
         × IsLed (S.left script.old) (S.left script.new) (G.kept images.old) memory.new led
         × OthersSame (G.kept images.old) (G.kept images.new) led.name
         × AppendedSome (W.held report.old) (W.held report.new) (report_bytes led.report))
-        ⊎ ((name : List ℕ) × IsCheck (map string_bytes words.now) name × HasCheckedSome (G.kept images.old) name (W.held report.old) (W.held report.new) × IsNoLife (S.left script.old) (S.left script.new) (G.kept images.old) (G.kept images.new) memory.new)) }
+        ⊎ (((name : List ℕ) × IsCheck (map string_bytes words.now) name × HasCheckedSome (G.kept images.old) name (W.held report.old) (W.held report.new) × IsNoLife (S.left script.old) (S.left script.new) (G.kept images.old) (G.kept images.new) memory.new)
+        ⊎ ((n : ℕ) × IsDrill (map string_bytes words.now) n × IsDrillStarved n memory.new (W.held report.old) (W.held report.new) × IsApart (S.left script.old) (S.left script.new) (G.kept images.old) (G.kept images.new)))) }
 
     // Where nothing outside fails, the source's bytes decide on the status of a start, those and what is kept under the name on that of a resume,
     // and what is kept under the name on that of a check.
@@ -145,6 +154,9 @@ pub fn respct<R: AllocGlobal, S: Source, G: Images, W: Sink>(
         → (Rose (G.count images.old) (G.count images.new) → ⊥)
         → (Rose (W.count report.old) (W.count report.new) → ⊥)
         → (named : Named) → G.kept images.old ≡ Some named → LeadsCheckTo (get named name) result }
+    // A drill has no other status than that its text is written, or that the sink failed, or that memory ran out.
+    ensures drilled { (n : ℕ) → IsDrill (map string_bytes words.now) n
+        → ((result ≡ WriteFault) × Rose (W.count report.old) (W.count report.new)) ⊎ IsUnlessStarved Finished result }
 {
     match respct_plain(rt.alloc(), words, script, images, report, memory) {
         PlainAnswer::Ended(status) => status,
@@ -163,12 +175,14 @@ pub fn respct_plain<S: Source, G: Images, W: Sink>(
     requires { memory.old ≡ [] }
 
     // 0: a life was led to its end, its image is saved, and its whole report was appended; or of a check, the image under the name is lawful,
-    // the text of the state that it recovers to was appended, and nothing else was done.
+    // the text of the state that it recovers to was appended, and nothing else was done; or of a drill, its nine lives were lived, the text of
+    // their summary was appended, and memory is what the last one left.
     ensures finished { result ≡ Ended Finished → ((led : Led) × AskFor led.life (map string_bytes words.now) led.name
         × IsLed (S.left script.old) (S.left script.new) (G.kept images.old) memory.new led
         × HasSaved (G.kept images.old) (G.kept images.new) memory.new led
         × Appended (W.held report.old) (W.held report.new) (report_bytes led.report) × (led.report.outcome ≡ ends.Finished))
-        ⊎ ((name : List ℕ) × IsCheck (map string_bytes words.now) name × HasChecked (G.kept images.old) name (W.held report.old) (W.held report.new) × IsNoLife (S.left script.old) (S.left script.new) (G.kept images.old) (G.kept images.new) memory.new) }
+        ⊎ (((name : List ℕ) × IsCheck (map string_bytes words.now) name × HasChecked (G.kept images.old) name (W.held report.old) (W.held report.new) × IsNoLife (S.left script.old) (S.left script.new) (G.kept images.old) (G.kept images.new) memory.new)
+        ⊎ ((n : ℕ) × IsDrill (map string_bytes words.now) n × HasDrilled n memory.new (W.held report.old) (W.held report.new) × IsApart (S.left script.old) (S.left script.new) (G.kept images.old) (G.kept images.new))) }
 
     // 3: a life was led until it stalled, with each thread at its script's end or before a take of the empty queue, and one before a take; its
     // image is saved, and its whole report was appended.
@@ -223,23 +237,26 @@ pub fn respct_plain<S: Source, G: Images, W: Sink>(
         ⊎ ((name : List ℕ) × IsOnlyLoaded (map string_bytes words.now) name (S.left script.old) (S.left script.new) (W.held report.old) (W.held report.new) (G.kept images.old) (G.kept images.new) memory.new)) }
 
     // 8: the sink failed: after a life was led and its image saved, and a first part of its report was appended; or of a check, and a first part of
-    // the text of the state was appended.
+    // the text of the state was appended; or of a drill, and a first part of the text of its summary was.
     ensures unwritten { result ≡ Ended WriteFault → Rose (W.count report.old) (W.count report.new)
         × (((led : Led) × AskFor led.life (map string_bytes words.now) led.name
         × IsLed (S.left script.old) (S.left script.new) (G.kept images.old) memory.new led
         × HasSaved (G.kept images.old) (G.kept images.new) memory.new led
         × AppendedSome (W.held report.old) (W.held report.new) (report_bytes led.report))
-        ⊎ ((name : List ℕ) × IsCheck (map string_bytes words.now) name × HasCheckedSome (G.kept images.old) name (W.held report.old) (W.held report.new) × IsNoLife (S.left script.old) (S.left script.new) (G.kept images.old) (G.kept images.new) memory.new)) }
+        ⊎ (((name : List ℕ) × IsCheck (map string_bytes words.now) name × HasCheckedSome (G.kept images.old) name (W.held report.old) (W.held report.new) × IsNoLife (S.left script.old) (S.left script.new) (G.kept images.old) (G.kept images.new) memory.new)
+        ⊎ ((n : ℕ) × IsDrill (map string_bytes words.now) n × HasDrilledSome n memory.new (W.held report.old) (W.held report.new) × IsApart (S.left script.old) (S.left script.new) (G.kept images.old) (G.kept images.new)))) }
 
     // 11: memory ran out. No life is told and nothing was done but that some bytes were taken; or a life was led, what is under its image's
-    // name is open, and a first part of its report was appended; or a first part of the text of the state that a check found was appended.
+    // name is open, and a first part of its report was appended; or a first part of the text of the state that a check found was appended; or of
+    // a drill, in its lives, and nothing was appended, or behind them, and a first part of the text of their summary was.
     ensures starved { result ≡ Ended OutOfMemory
         → (TookSome (S.left script.old) (S.left script.new) × IsUntouched (W.held report.old) (W.held report.new) (G.kept images.old) (G.kept images.new) memory.new)
         ⊎ (((led : Led) × AskFor led.life (map string_bytes words.now) led.name
         × IsLed (S.left script.old) (S.left script.new) (G.kept images.old) memory.new led
         × OthersSame (G.kept images.old) (G.kept images.new) led.name
         × AppendedSome (W.held report.old) (W.held report.new) (report_bytes led.report))
-        ⊎ ((name : List ℕ) × IsCheck (map string_bytes words.now) name × HasCheckedSome (G.kept images.old) name (W.held report.old) (W.held report.new) × IsNoLife (S.left script.old) (S.left script.new) (G.kept images.old) (G.kept images.new) memory.new)) }
+        ⊎ (((name : List ℕ) × IsCheck (map string_bytes words.now) name × HasCheckedSome (G.kept images.old) name (W.held report.old) (W.held report.new) × IsNoLife (S.left script.old) (S.left script.new) (G.kept images.old) (G.kept images.new) memory.new)
+        ⊎ ((n : ℕ) × IsDrill (map string_bytes words.now) n × IsDrillStarved n memory.new (W.held report.old) (W.held report.new) × IsApart (S.left script.old) (S.left script.new) (G.kept images.old) (G.kept images.new)))) }
 
     // Where nothing outside fails, the source's bytes decide on the status of a start, those and what is kept under the name on that of a resume,
     // and what is kept under the name on that of a check.
@@ -255,6 +272,9 @@ pub fn respct_plain<S: Source, G: Images, W: Sink>(
         → (Rose (G.count images.old) (G.count images.new) → ⊥)
         → (Rose (W.count report.old) (W.count report.new) → ⊥)
         → (named : Named) → G.kept images.old ≡ Some named → LeadsCheckTo (get named name) (status_in result) }
+    // A drill has no other status than that its text is written, or that the sink failed, or that memory ran out.
+    ensures drilled { (n : ℕ) → IsDrill (map string_bytes words.now) n
+        → ((status_in result ≡ WriteFault) × Rose (W.count report.old) (W.count report.new)) ⊎ IsUnlessStarved Finished (status_in result) }
 {
     match form_of(words) {
         Some(Form::Lead { life, image }) => {
@@ -264,6 +284,10 @@ pub fn respct_plain<S: Source, G: Images, W: Sink>(
         Some(Form::Check { image }) => {
             let ended = check(alloc, images, image, report);
             PlainAnswer::Ended(Status::of_check(ended))
+        }
+        Some(Form::Drill { number }) => {
+            let ended = drill(alloc, number, report, memory);
+            PlainAnswer::Ended(Status::of_drill(ended))
         }
         None => PlainAnswer::Ended(Status::Usage),
     }

@@ -1,6 +1,7 @@
 //! The words after the program's name, and the forms in which they stand.
 
-ghost use Rattle.std.specs.Prelude.{◌≡◌, ℕ, List, map, MatchOption};
+ghost use Rattle.std.specs.Prelude.{◌≡◌, ℕ, ◌<◌, ◌^◌, List, [], ◌∷◌, map, MatchOption};
+ghost use Rattle.std.specs.Fmt.{decimal};
 ghost use Rattle.std.specs.String.{string_bytes};
 ghost use Rattle.respct.specs.Words.{IsName, AreNaming, AreWordsOf, AreOfNoForm};
 
@@ -22,6 +23,8 @@ pub enum Form<'a> {
     Lead { life: Life, image: &'a str },
     /// The judgement of the image under this name.
     Check { image: &'a str },
+    /// The drill of this number.
+    Drill { number: u64 },
 }
 
 /// The form that the words have.
@@ -29,6 +32,10 @@ pub fn form_of(words: &[String]) -> Option<Form<'_>>
     ensures { MatchOption result (AreOfNoForm (map string_bytes words.now)) (AreWordsOf (map string_bytes words.now)) }
 {
     let (word, options) = words.split_first()?;
+    if word.as_str() == "drill" {
+        let number = drill_number(options)?;
+        return Some(Form::Drill { number });
+    }
     let image = image_name(options)?;
     if word.as_str() == "start" {
         Some(Form::Lead {
@@ -45,6 +52,31 @@ pub fn form_of(words: &[String]) -> Option<Form<'_>>
     } else {
         None
     }
+}
+
+/// The number of a drill that the words behind `drill` give.
+fn drill_number(options: &[String]) -> Option<u64>
+    ensures { MatchOption result ((n : ℕ) → n < 2 ^ 64 → map string_bytes options.now ≡ decimal n ∷ [] → ⊥)
+        (λ n. map string_bytes options.now ≡ decimal n ∷ []) }
+{
+    match options {
+        [word] => number_of(word.as_str()),
+        _ => None,
+    }
+}
+
+/// The number that a word stands for: digits, with no zero in front but in `0` itself.
+fn number_of(word: &str) -> Option<u64>
+    ensures { MatchOption result ((n : ℕ) → n < 2 ^ 64 → word.now ≡ decimal n → ⊥) (λ n. word.now ≡ decimal n) }
+{
+    let digits = word.as_bytes();
+    if digits.starts_with(b"+") {
+        return None;
+    }
+    if digits.len() > 1 && digits.starts_with(b"0") {
+        return None;
+    }
+    word.parse::<u64>().ok()
 }
 
 /// The name of an image that the words behind a form's word give.

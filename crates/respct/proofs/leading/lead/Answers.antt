@@ -28,7 +28,12 @@ returns-in-Ok-write-clause-reported g c = record {
       (ports (g.S.Source.left c.args.source.now) (g.S.Source.count c.args.source.now) (g.W.Sink.held c.args.sink.now) (g.W.Sink.count c.args.sink.now) (g.G.Images.kept c.args.images.now) (g.G.Images.count c.args.images.now))
       (ports (g.S.Source.left c.read.new.source) (g.S.Source.count c.read.new.source) (g.W.Sink.held c.write.new.sink) (g.W.Sink.count c.write.new.sink) (g.G.Images.kept c.save.new.images) (g.G.Images.count c.save.new.images))
       (program_of c.in-Ok.script) c.in-Ok-open.opened (report_of c.in-Ok-live.report) c.live.new.memory c.in-Ok.ensures.script c.in-Ok-open.ensures.opened c.in-Ok-live.ensures.told;
-  saved = has_saved c.args.life c.args.name.now (g.G.Images.kept c.args.images.now) (g.G.Images.kept c.open.new.images) (g.G.Images.kept c.save.new.images) c.in-Ok.script c.in-Ok-open.ensures.opened.image c.in-Ok-open.ensures.opened.opening (report_of c.in-Ok-live.report) c.live.new.memory c.in-Ok-open.ensures.same c.in_default.ensures.saved;
+  saved = has_saved c.args.life c.args.name.now (g.G.Images.kept c.args.images.now) (g.G.Images.kept c.open.new.images) (g.G.Images.kept c.save.new.images) (g.S.Source.left c.args.source.now) (g.S.Source.left c.read.new.source) c.in-Ok.script c.in-Ok-open.ensures.opened.image c.in-Ok-open.ensures.opened.opening (report_of c.in-Ok-live.report) c.live.new.memory c.in-Ok-open.ensures.same
+      (has_led c.args.life c.args.name.now
+      (ports (g.S.Source.left c.args.source.now) (g.S.Source.count c.args.source.now) (g.W.Sink.held c.args.sink.now) (g.W.Sink.count c.args.sink.now) (g.G.Images.kept c.args.images.now) (g.G.Images.count c.args.images.now))
+      (ports (g.S.Source.left c.read.new.source) (g.S.Source.count c.read.new.source) (g.W.Sink.held c.write.new.sink) (g.W.Sink.count c.write.new.sink) (g.G.Images.kept c.save.new.images) (g.G.Images.count c.save.new.images))
+      (program_of c.in-Ok.script) c.in-Ok-open.opened (report_of c.in-Ok-live.report) c.live.new.memory c.in-Ok.ensures.script c.in-Ok-open.ensures.opened c.in-Ok-live.ensures.told).is_led
+      c.in_default.ensures.whole c.in_default.ensures.saved;
   appended = c.in-Ok-write.ensures.written;
   ended = refl;
 }
@@ -42,7 +47,12 @@ returns-clause-refused g c = (
         (ports (g.S.Source.left c.args.source.now) (g.S.Source.count c.args.source.now) (g.W.Sink.held c.args.sink.now) (g.W.Sink.count c.args.sink.now) (g.G.Images.kept c.args.images.now) (g.G.Images.count c.args.images.now))
         (ports (g.S.Source.left c.read.new.source) (g.S.Source.count c.read.new.source) (g.W.Sink.held c.write.new.sink) (g.W.Sink.count c.write.new.sink) (g.G.Images.kept c.save.new.images) (g.G.Images.count c.save.new.images))
         (program_of c.in-Ok.script) c.in-Ok-open.opened (report_of c.in-Ok-live.report) c.live.new.memory c.in-Ok.ensures.script c.in-Ok-open.ensures.opened c.in-Ok-live.ensures.told;
-    saved = has_saved c.args.life c.args.name.now (g.G.Images.kept c.args.images.now) (g.G.Images.kept c.open.new.images) (g.G.Images.kept c.save.new.images) c.in-Ok.script c.in-Ok-open.ensures.opened.image c.in-Ok-open.ensures.opened.opening (report_of c.in-Ok-live.report) c.live.new.memory c.in-Ok-open.ensures.same c.in_default.ensures.saved;
+    saved = has_saved c.args.life c.args.name.now (g.G.Images.kept c.args.images.now) (g.G.Images.kept c.open.new.images) (g.G.Images.kept c.save.new.images) (g.S.Source.left c.args.source.now) (g.S.Source.left c.read.new.source) c.in-Ok.script c.in-Ok-open.ensures.opened.image c.in-Ok-open.ensures.opened.opening (report_of c.in-Ok-live.report) c.live.new.memory c.in-Ok-open.ensures.same
+        (has_led c.args.life c.args.name.now
+        (ports (g.S.Source.left c.args.source.now) (g.S.Source.count c.args.source.now) (g.W.Sink.held c.args.sink.now) (g.W.Sink.count c.args.sink.now) (g.G.Images.kept c.args.images.now) (g.G.Images.count c.args.images.now))
+        (ports (g.S.Source.left c.read.new.source) (g.S.Source.count c.read.new.source) (g.W.Sink.held c.write.new.sink) (g.W.Sink.count c.write.new.sink) (g.G.Images.kept c.save.new.images) (g.G.Images.count c.save.new.images))
+        (program_of c.in-Ok.script) c.in-Ok-open.opened (report_of c.in-Ok-live.report) c.live.new.memory c.in-Ok.ensures.script c.in-Ok-open.ensures.opened c.in-Ok-live.ensures.told).is_led
+        c.in_default.ensures.whole c.in_default.ensures.saved;
     some = c.in-Err-write.ensures.refused;
   },
 )

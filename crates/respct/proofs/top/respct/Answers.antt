@@ -49,3 +49,6 @@ returns-clause-in_time g c = λ life name is bytes told p built. rw (ended c.res
 
 pub returns-clause-judged : goal.returns-clause-judged
 returns-clause-judged g c = λ name is loading writing named told. rw (ended c.respct_plain.result) (c.respct_plain.ensures.judged name is loading writing named told)
+
+pub returns-clause-drilled : goal.returns-clause-drilled
+returns-clause-drilled g c = λ n is. rw (ended c.respct_plain.result) (c.respct_plain.ensures.drilled n is)

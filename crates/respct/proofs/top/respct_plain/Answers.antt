@@ -4,8 +4,8 @@ use Rattle.std.specs.String.{string_bytes}
 use Rattle.respct.specs.declared.status.Status.{Status}
 use Rattle.respct.specs.Answers.{LeadsCheckTo}
 use Rattle.respct.specs.Steps.{ports}
-use Rattle.respct.proofs.Naming.{one_form, one_name, no_life_asked}
-use Rattle.respct.proofs.Telling.{Told, life_status, check_status, answered}
+use Rattle.respct.proofs.Naming.{one_form, one_name, no_life_asked, no_checked_drill, no_drill_led}
+use Rattle.respct.proofs.Telling.{Told, life_status, check_status, drill_status, drill_ends, answered}
 use Rattle.respct.proofs.Deciding.{decides}
 use Rattle.respct.proofs.EnoughTurns.{in_time}
 use Rattle.respct.proofs.Judging.{judges}
@@ -83,6 +83,9 @@ returns-in-Some-Lead-clause-in_time g c = λ life_asked name is bytes told p bui
 pub returns-in-Some-Lead-clause-judged : goal.returns-in-Some-Lead-clause-judged
 returns-in-Some-Lead-clause-judged g c = λ name is loading writing named told. absurd (one_form c.in-Some-Lead.life (map string_bytes c.args.words.now) c.in-Some-Lead.image.now name (search rules) is)
 
+pub returns-in-Some-Lead-clause-drilled : goal.returns-in-Some-Lead-clause-drilled
+returns-in-Some-Lead-clause-drilled g c = λ n is. absurd (no_drill_led c.in-Some-Lead.life (map string_bytes c.args.words.now) c.in-Some-Lead.image.now n (search rules) is)
+
 -- OF A CHECK.
 
 -- its status tells
@@ -149,6 +152,77 @@ returns-in-Some-Check-clause-judged g c = λ name is loading writing named told.
     subst (λ (n : List ℕ). LeadsCheckTo (get named n) c.of_check.result) same
     (subst (λ (status : Status). LeadsCheckTo (get named c.in-Some-Check.image.now) status) (sym c.of_check.ensures) (judges (get named c.in-Some-Check.image.now) c.check-ended.result (c.check-ended.ensures.decided loading writing named told)))
 
+pub returns-in-Some-Check-clause-drilled : goal.returns-in-Some-Check-clause-drilled
+returns-in-Some-Check-clause-drilled g c = λ n is. absurd (no_checked_drill (map string_bytes c.args.words.now) c.in-Some-Check.image.now n (search rules) is)
+
+-- OF A DRILL.
+
+-- its status tells
+drill : (g : Over) (c : goal.After-of_drill g) → Told (map string_bytes c.args.words.now)
+    (ports (g.S.Source.left c.args.script.now) (g.S.Source.count c.args.script.now) (g.W.Sink.held c.args.report.now) (g.W.Sink.count c.args.report.now) (g.G.Images.kept c.args.images.now) (g.G.Images.count c.args.images.now))
+    (ports (g.S.Source.left c.args.script.now) (g.S.Source.count c.args.script.now) (g.W.Sink.held c.drill-ended.new.sink) (g.W.Sink.count c.drill-ended.new.sink) (g.G.Images.kept c.args.images.now) (g.G.Images.count c.args.images.now))
+    c.drill-ended.new.memory c.of_drill.result
+drill g c = drill_status (map string_bytes c.args.words.now) c.in-Some-Drill.number
+    (ports (g.S.Source.left c.args.script.now) (g.S.Source.count c.args.script.now) (g.W.Sink.held c.args.report.now) (g.W.Sink.count c.args.report.now) (g.G.Images.kept c.args.images.now) (g.G.Images.count c.args.images.now))
+    (ports (g.S.Source.left c.args.script.now) (g.S.Source.count c.args.script.now) (g.W.Sink.held c.drill-ended.new.sink) (g.W.Sink.count c.drill-ended.new.sink) (g.G.Images.kept c.args.images.now) (g.G.Images.count c.args.images.now))
+    c.drill-ended.new.memory (search rules) refl refl c.drill-ended.result c.drill-ended.ensures.drilled c.drill-ended.ensures.refused c.of_drill.result c.of_drill.ensures
+
+pub returns-in-Some-Drill-clause-usage : goal.returns-in-Some-Drill-clause-usage
+returns-in-Some-Drill-clause-usage g c = (λ e. absurd (answered _ _ _ _ _ _ (drill g c) e), λ none. absurd (none.no_drill c.in-Some-Drill.number (search rules)))
+
+pub returns-in-Some-Drill-clause-finished : goal.returns-in-Some-Drill-clause-finished
+returns-in-Some-Drill-clause-finished g c = λ e. answered _ _ _ _ _ _ (drill g c) e
+
+pub returns-in-Some-Drill-clause-stalled : goal.returns-in-Some-Drill-clause-stalled
+returns-in-Some-Drill-clause-stalled g c = λ e. answered _ _ _ _ _ _ (drill g c) e
+
+pub returns-in-Some-Drill-clause-cut : goal.returns-in-Some-Drill-clause-cut
+returns-in-Some-Drill-clause-cut g c = λ e. answered _ _ _ _ _ _ (drill g c) e
+
+pub returns-in-Some-Drill-clause-unasked : goal.returns-in-Some-Drill-clause-unasked
+returns-in-Some-Drill-clause-unasked g c = λ e. absurd (answered _ _ _ _ _ _ (drill g c) e)
+
+pub returns-in-Some-Drill-clause-script : goal.returns-in-Some-Drill-clause-script
+returns-in-Some-Drill-clause-script g c = λ f e. answered _ _ _ _ _ _ (drill g c) e
+
+pub returns-in-Some-Drill-clause-unread : goal.returns-in-Some-Drill-clause-unread
+returns-in-Some-Drill-clause-unread g c = λ e. answered _ _ _ _ _ _ (drill g c) e
+
+pub returns-in-Some-Drill-clause-too_long : goal.returns-in-Some-Drill-clause-too_long
+returns-in-Some-Drill-clause-too_long g c = λ e. answered _ _ _ _ _ _ (drill g c) e
+
+pub returns-in-Some-Drill-clause-image : goal.returns-in-Some-Drill-clause-image
+returns-in-Some-Drill-clause-image g c = λ f e. answered _ _ _ _ _ _ (drill g c) e
+
+pub returns-in-Some-Drill-clause-misfit : goal.returns-in-Some-Drill-clause-misfit
+returns-in-Some-Drill-clause-misfit g c = λ m e. answered _ _ _ _ _ _ (drill g c) e
+
+pub returns-in-Some-Drill-clause-missing : goal.returns-in-Some-Drill-clause-missing
+returns-in-Some-Drill-clause-missing g c = λ e. answered _ _ _ _ _ _ (drill g c) e
+
+pub returns-in-Some-Drill-clause-unsaved : goal.returns-in-Some-Drill-clause-unsaved
+returns-in-Some-Drill-clause-unsaved g c = λ e. answered _ _ _ _ _ _ (drill g c) e
+
+pub returns-in-Some-Drill-clause-unwritten : goal.returns-in-Some-Drill-clause-unwritten
+returns-in-Some-Drill-clause-unwritten g c = λ e. answered _ _ _ _ _ _ (drill g c) e
+
+pub returns-in-Some-Drill-clause-starved : goal.returns-in-Some-Drill-clause-starved
+returns-in-Some-Drill-clause-starved g c = λ e. answered _ _ _ _ _ _ (drill g c) e
+
+pub returns-in-Some-Drill-clause-complete : goal.returns-in-Some-Drill-clause-complete
+returns-in-Some-Drill-clause-complete g c = λ life_asked name is reading saving writing bytes told. absurd (no_drill_led life_asked (map string_bytes c.args.words.now) name c.in-Some-Drill.number is (search rules))
+
+pub returns-in-Some-Drill-clause-in_time : goal.returns-in-Some-Drill-clause-in_time
+returns-in-Some-Drill-clause-in_time g c = λ life_asked name is bytes told p built. absurd (no_drill_led life_asked (map string_bytes c.args.words.now) name c.in-Some-Drill.number is (search rules))
+
+pub returns-in-Some-Drill-clause-judged : goal.returns-in-Some-Drill-clause-judged
+returns-in-Some-Drill-clause-judged g c = λ name is loading writing named told. absurd (no_checked_drill (map string_bytes c.args.words.now) name c.in-Some-Drill.number is (search rules))
+
+pub returns-in-Some-Drill-clause-drilled : goal.returns-in-Some-Drill-clause-drilled
+returns-in-Some-Drill-clause-drilled g c = λ n is.
+    drill_ends c.in-Some-Drill.number c.drill-ended.new.memory (g.W.Sink.held c.args.report.now) (g.W.Sink.held c.drill-ended.new.sink) (g.W.Sink.count c.args.report.now) (g.W.Sink.count c.drill-ended.new.sink) c.drill-ended.result
+    c.drill-ended.ensures.refused c.of_drill.result c.of_drill.ensures
+
 -- OF NO FORM.
 pub returns-in-None-clause-complete : goal.returns-in-None-clause-complete
 returns-in-None-clause-complete g c = λ life_asked name is reading saving writing bytes told. absurd (no_life_asked life_asked (map string_bytes c.args.words.now) name c.in-None.ensures is)
@@ -158,3 +232,6 @@ returns-in-None-clause-in_time g c = λ life_asked name is bytes told p built. a
 
 pub returns-in-None-clause-judged : goal.returns-in-None-clause-judged
 returns-in-None-clause-judged g c = λ name is loading writing named told. absurd (c.in-None.ensures.no_check name is)
+
+pub returns-in-None-clause-drilled : goal.returns-in-None-clause-drilled
+returns-in-None-clause-drilled g c = λ n is. absurd (c.in-None.ensures.no_drill n is)
