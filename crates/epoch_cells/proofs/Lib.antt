@@ -1,0 +1,5 @@
+pub mod Beginnings
+pub mod Cuts
+pub mod Going
+pub mod Records
+pub mod Written
