@@ -1,54 +1,20 @@
--- Balances as a list: of rooms with the same records, behind a write, behind a transfer, and of new accounts.
-use Rattle.std.proofs.Common.{◌≡◌, ◌≢◌, ℕ, ◌+◌, ◌-◌, ◌<◌, ◌≤◌, List, [], ◌++◌, length, slice_index, get_or, set, sum, ap, sym, ◌∙◌, arith, inl, inr, length-set, get_or-set_same, get_or-set_other}
-use Rattle.std.proofs.lemmas.List.FromFn.{length-map-range_with_len, get_or-map-range_with_len, fill_by_all}
+-- Balances as a list: of new accounts, behind a transfer, and behind what a cut left.
+use Rattle.std.proofs.Common.{◌≡◌, ◌≢◌, ℕ, ◌+◌, ◌-◌, ◌<◌, ◌≤◌, List, [], ◌∷◌, length, map, slice_index, get_or, set, sum, refl, ap, sym, ◌∙◌, arith, inl, inr, length-set, get_or-set_other}
 use Rattle.std.proofs.lemmas.List.Sums.{sum_by-set}
-use Rattle.std.proofs.lemmas.Bool.Decides.{eqb_tells}
-use Rattle.room_model.specs.declared.write.PlannedStore.{PlannedStore}
-use Rattle.room_model.specs.Chains.{RoomWords, with_word, HasSameRecords}
-use Rattle.room_model.specs.Writes.{write, write_stores, stored_in}
-use Rattle.room_laws.specs.Stores.{PlannedWriteLaw}
-use Rattle.account_store.specs.Accounts.{balances_of, moved}
+use Rattle.room_model.specs.declared.write.Write.{Write}
+use Rattle.room_model.specs.Writes.{write}
+use Rattle.epoch_cells.specs.Cells.{EpochCellsState, AreEpochCells, cell_count, records, saved_records, after_writes, column}
+use Rattle.epoch_cells.specs.Laws.{CutLaw, ColumnCountLaw, ColumnWritesLaw}
+use Rattle.account_store.specs.Accounts.{IsAccountStore, balances, moved, account_record}
+use Rattle.account_store.specs.Laws.{AccountsCutLaw}
 
--- there are as many balances as accounts
-pub count : (r : RoomWords) (n : ℕ) → length (balances_of r n) ≡ n
-count r n = length-map-range_with_len (λ (line : ℕ). r line 0) 0 n
-
--- the balance of an account
-pub at : (r : RoomWords) (n k : ℕ) → k < n → get_or (balances_of r n) k 0 ≡ r k 0
-at r n k lt = get_or-map-range_with_len (λ (line : ℕ). r line 0) 0 n k k 0 lt (omega arith)
-
--- a list with these balances
-pub these : (r : RoomWords) (n : ℕ) (bs : List ℕ) → length bs ≡ n → ((k : ℕ) → k < n → get_or bs k 0 ≡ r k 0) → bs ≡ balances_of r n
-these r n bs many each = fill_by_all (λ (line : ℕ). r line 0) bs n 0 many each
-
--- rooms with the same records have the same balances
-pub same_balances : (r q : RoomWords) (n : ℕ) → HasSameRecords r q → balances_of r n ≡ balances_of q n
-same_balances r q n same = these q n (balances_of r n) (count r n) (λ k lt. at r n k lt ∙ same k 0 (omega arith))
-
--- behind a write of a balance
-written_balances : (r : RoomWords) (n line value : ℕ) → line < n → balances_of (with_word r line 0 value) n ≡ set (balances_of r n) line value
-written_balances r n line value within = sym (these (with_word r line 0 value) n (set (balances_of r n) line value) (length-set (balances_of r n) line value ∙ count r n) each)
-  where
-    each : (k : ℕ) → k < n → get_or (set (balances_of r n) line value) k 0 ≡ with_word r line 0 value k 0
-    each k lt = elim (eqb_tells k line) [
-      | inl h ↦
-          let many = count r n in
-          let lt_bs : line < length (balances_of r n) = omega (arith, many) in
-          ap (λ (j : ℕ). get_or (set (balances_of r n) line value) j 0) h.1 ∙ get_or-set_same (balances_of r n) line value 0 lt_bs ∙ simp h.0
-      | inr h ↦ get_or-set_other (balances_of r n) line k value 0 h.1 ∙ at r n k lt ∙ simp h.0
-    ]
-
--- behind the planned stores of a transfer
-pub transferred : PlannedWriteLaw → (epoch : ℕ) (r : RoomWords) (n from to less more : ℕ) → from < n → to < n →
-    balances_of (stored_in r (write_stores epoch r [] (write from 0 less) ++ write_stores epoch r (write_stores epoch r [] (write from 0 less)) (write to 0 more))) n ≡ set (set (balances_of r n) from less) to more
-transferred law epoch r n from to less more within_from within_to =
-    let first : List PlannedStore = write_stores epoch r [] (write from 0 less) in
-    same_balances (stored_in r (first ++ write_stores epoch r first (write to 0 more))) (with_word (stored_in r first) to 0 more) n (law epoch r first (write to 0 more))
-    ∙ written_balances (stored_in r first) n to more within_to
-    ∙ ap (λ (bs : List ℕ). set bs to more) (same_balances (stored_in r first) (with_word r from 0 less) n (law epoch r [] (write from 0 less)) ∙ written_balances r n from less within_from)
+-- the balances of new accounts
+pub new_balances : (first : List ℕ) → column 0 (map account_record first) ≡ first
+new_balances [] = refl
+new_balances (b ∷ bs) = ap (λ (rest : List ℕ). b ∷ rest) (new_balances bs)
 
 -- a transfer leaves the sum of all balances
-pub same_sum : (bs : List ℕ) (from to amount : ℕ) → from < length bs → to < length bs → from ≢ to → amount ≤ slice_index bs from → sum (moved bs from to amount) ≡ sum bs
+same_sum : (bs : List ℕ) (from to amount : ℕ) → from < length bs → to < length bs → from ≢ to → amount ≤ slice_index bs from → sum (moved bs from to amount) ≡ sum bs
 same_sum bs from to amount within_from within_to two enough =
     let less = slice_index bs from - amount in
     let more = slice_index bs to + amount in
@@ -58,3 +24,54 @@ same_sum bs from to amount within_from within_to two enough =
     let given = sum_by-set (λ (x : ℕ). x) (set bs from less) to more 0 within in
     let other : get_or (set bs from less) to 0 ≡ get_or bs to 0 = get_or-set_other bs from to less 0 (λ is. two (sym is)) in
     omega (arith, taken, given, other, enough)
+
+-- this amount may be moved
+pub record MayMove (s : EpochCellsState) (from to amount : ℕ) : Type 0 where
+  pub from_is : from < cell_count s
+  pub to_is : to < cell_count s
+  pub two : from ≢ to
+  pub enough : amount ≤ slice_index (balances s) from
+
+-- the writes of a transfer of this amount
+pub record AreOfTransfer (s : EpochCellsState) (from to amount : ℕ) (xs : List Write) : Type 0 where
+  pub less : ℕ
+  pub more : ℕ
+  pub less_is : less ≡ slice_index (balances s) from - amount
+  pub more_is : more ≡ slice_index (balances s) to + amount
+  pub are : xs ≡ write from 0 less ∷ write to 0 more ∷ []
+
+-- the balances behind them
+transferred : ColumnWritesLaw → (s : EpochCellsState) (from to amount : ℕ) (xs : List Write) → MayMove s from to amount → AreOfTransfer s from to amount xs → column 0 (after_writes (records s) xs) ≡ moved (balances s) from to amount
+transferred law s from to amount xs may writes =
+    let from_is = may.from_is in
+    let to_is = may.to_is in
+    ap (λ (ws : List Write). column 0 (after_writes (records s) ws)) writes.are
+    ∙ law s (write from 0 writes.less ∷ write to 0 writes.more ∷ []) 0 (from_is, omega arith, (to_is, omega arith, tt)) (omega arith)
+    ∙ ap (λ (x : ℕ). set (set (balances s) from x) to writes.more) writes.less_is ∙ ap (λ (x : ℕ). set (set (balances s) from (slice_index (balances s) from - amount)) to x) writes.more_is
+
+-- a transfer that was begun leaves a store
+pub begun : ColumnCountLaw → ColumnWritesLaw → (s n : EpochCellsState) (from to amount : ℕ) (xs : List Write) → IsAccountStore s → MayMove s from to amount → AreOfTransfer s from to amount xs
+    → AreEpochCells n → records n ≡ after_writes (records s) xs → saved_records n ≡ saved_records s → IsAccountStore n
+begun count law s n from to amount xs is may writes cells written saved =
+    let many = count s 0 in
+    let from_is = may.from_is in
+    let to_is = may.to_is in
+    let moves = ap (column 0) written ∙ transferred law s from to amount xs may writes in
+    record {
+      cells = cells;
+      same_sum = ap (λ (rs : List (List ℕ)). sum (column 0 rs)) saved ∙ is.same_sum
+          ∙ sym (ap (λ (bs : List ℕ). sum bs) moves ∙ same_sum (balances s) from to amount (omega (arith, many, from_is)) (omega (arith, many, to_is)) may.two may.enough);
+    }
+
+-- what a cut leaves
+pub accounts_cut : CutLaw → AccountsCutLaw
+accounts_cut law s choice kept is =
+    let left = law s choice kept is.cells in
+    elim left.state [
+      | inl last ↦
+          let bs_are = ap (column 0) last in
+          record { lawful = left.lawful; state = inl bs_are; same_sum = ap (λ (bs : List ℕ). sum bs) bs_are ∙ is.same_sum }
+      | inr next ↦
+          let bs_are = ap (column 0) next.1 in
+          record { lawful = left.lawful; state = inr (next.0, bs_are); same_sum = ap (λ (bs : List ℕ). sum bs) bs_are }
+    ]

@@ -1,5 +1,1 @@
 pub mod Balances
-pub mod Beginnings
-pub mod Cuts
-pub mod Going
-pub mod Transfers

@@ -5,8 +5,8 @@
 //! recovery are begun by one call each, and then each of their events is one [`AccountStore::step`], so that there is a call behind which
 //! the power may be cut at every event; [`AccountStore::finish`] makes all that are left.
 //!
-//! A contract sees the cells, the stores that are left of a transfer, the super room, and which event comes next. Proved here, of every
-//! store that these calls lead to:
+//! A contract sees the cells with their epoch, as [`epoch_cells::EpochCells`] has them, and reads the balances off their records. Proved
+//! here, of every store that these calls lead to:
 //!
 //! - a transfer moves the amount, and nothing else changes the balances ([`AccountStore::transfer`], [`AccountStore::step`]);
 //! - the last checkpoint changes only at the last event of a checkpoint or of a recovery, and is then the balances;
@@ -17,13 +17,10 @@
 //! Want of memory is the one refusal. That memory can be had is only tested.
 #![tactic(auto)]
 
-mod events;
 mod laws;
-mod stage;
 mod store;
 #[cfg(test)]
 mod tests;
 
 pub use laws::cut_law;
-pub use stage::Stage;
 pub use store::AccountStore;

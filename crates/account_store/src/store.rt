@@ -1,35 +1,30 @@
 //! The store of accounts, and its calls.
 
-ghost use Rattle.std.specs.Prelude.{◌≡◌, ◌≢◌, ◌+◌, ◌-◌, ◌<◌, ◌≤◌, ◌^◌, ◌⊎◌, ◌↔◌, true, false, [], ◌∷◌, length, map, slice_index, if◌then◌else◌, IsTrue, IfOk, OnOk, OnErr};
-ghost use Rattle.account_store.specs.Accounts.{IsAccountStore, CanRecover, IsAtRest, IsSpent, account_count, balances, checkpointed, recovered, moved, settled, is_last, events_left};
-ghost use Rattle.account_store.specs.Events.{account_words, epoch_words};
+ghost use Rattle.std.specs.Prelude.{◌≡◌, ◌≢◌, ◌+◌, ◌<◌, ◌≤◌, ◌^◌, ◌⊎◌, ◌↔◌, false, length, map, slice_index, if◌then◌else◌, IsTrue, IfOk, OnOk, OnErr};
+ghost use Rattle.epoch_cells.specs.Cells.{CanRecover, IsAtRest, IsSpent, cell_count, is_last, events_left};
+ghost use Rattle.account_store.specs.Accounts.{IsAccountStore, balances, checkpointed, recovered, moved, settled, account_record};
 
-use crate::events::{next_event, plan_transfer};
-use crate::stage::Stage;
-use epoch_word::SuperRoom;
-use incll_var::{CellBank, Plan};
+use epoch_cells::{EpochCells, Stage, column_laws};
 use line_memory::Bank;
-use planned_cells::{CellRoom, PlannedCells};
-use room_laws::planned_write_law;
+use room_model::Write;
 use std::alloc::{AllocError, Global};
 use std::marker::Model;
 
-/// Accounts, each in a cell of its own, the super room with the epoch of memory, and which event comes next.
+/// Accounts, each in a cell of its own.
 #[derive(Drop)]
 pub struct AccountStore {
-    cells: PlannedCells,
-    epoch: SuperRoom,
-    stage: Stage,
+    cells: EpochCells,
 }
 
 impl Model for AccountStore {
-    ghost use Rattle.account_store.specs.Accounts.{StoreState, IsAccountStore};
+    ghost use Rattle.epoch_cells.specs.Cells.{EpochCellsState};
+    ghost use Rattle.account_store.specs.Accounts.{IsAccountStore};
 
-    ghost Value = { StoreState };
+    ghost Value = { EpochCellsState };
 
-    ghost view = { λ a. record { cells = a.cells.cells; plan = a.cells.plan; epoch = a.epoch; stage = a.stage } };
+    ghost view = { λ a. a.cells };
 
-    ghost invariant = { λ a. IsAccountStore (record { cells = a.cells.cells; plan = a.cells.plan; epoch = a.epoch; stage = a.stage }) };
+    ghost invariant = { λ a. IsAccountStore a.cells };
 }
 
 impl AccountStore {
@@ -42,10 +37,9 @@ impl AccountStore {
         ensures stage { IfOk result (λ s. s.stage ≡ Stage.Restoring) }
         ensures whole { IfOk result IsAccountStore }
     {
-        let accounts = Bank::of(alloc, cells_of(alloc, first)?)?;
-        let epoch = Bank::of(alloc, epoch_of(alloc)?)?;
-        let store = AccountStore::recover(alloc, accounts, epoch)?;
-        Ok(store)
+        let records = records_of(alloc, first)?;
+        let cells = EpochCells::new(alloc, records.as_slice())?;
+        Ok(AccountStore { cells })
     }
 
     /// The accounts that a power cut left: their bank, and the bank of the super room. The events of a recovery are left. Want of memory is
@@ -57,22 +51,16 @@ impl AccountStore {
         ensures stage { IfOk result (λ s. s.stage ≡ Stage.Restoring) }
         ensures whole { IfOk result IsAccountStore }
     {
-        let epoch = SuperRoom::of(epoch)?;
-        let cells = CellBank::torn(alloc, accounts, epoch.epoch())?;
-        Ok(AccountStore {
-            cells: PlannedCells::of(cells, Plan::new(alloc)),
-            epoch,
-            stage: Stage::Restoring,
-        })
+        let cells = EpochCells::recover(alloc, accounts, epoch)?;
+        Ok(AccountStore { cells })
     }
 
     /// How many accounts there are. They are numbered from 0 on.
     pub fn count(&self) -> u32
-        ensures count { result ≡ account_count self.now }
+        ensures count { result ≡ cell_count self.now }
         ensures whole { IsAccountStore self.now }
     {
-        let _stage = self.stage;
-        self.cells.cells().lines()
+        self.cells.count()
     }
 
     /// Whether the accounts are open, and no store is left of a transfer.
@@ -80,18 +68,17 @@ impl AccountStore {
         ensures rest { IsTrue result ↔ IsAtRest self.now }
         ensures whole { IsAccountStore self.now }
     {
-        self.stage == Stage::Open && self.cells.is_idle()
+        self.cells.is_at_rest()
     }
 
     /// The balance of an account, at rest.
     pub fn balance(&self, account: u32) -> u64
         requires rest { IsAtRest self.now }
-        requires account { account < account_count self.now }
+        requires account { account < cell_count self.now }
         ensures balance { result ≡ slice_index (balances self.now) account }
         ensures whole { IsAccountStore self.now }
     {
-        let _stage = self.stage;
-        self.cells.load(account, 0)
+        self.cells.word(account, 0)
     }
 
     /// The bank of the accounts, and then that of the super room.
@@ -100,16 +87,15 @@ impl AccountStore {
         ensures epoch { result.1.now ≡ self.now.epoch }
         ensures whole { IsAccountStore self.now }
     {
-        let _stage = self.stage;
-        (self.cells.bank(), self.epoch.bank())
+        self.cells.banks()
     }
 
     /// Begins a transfer of an amount from one account, which has as much, to another, which has room for it. Its stores are now left.
     /// Want of memory is its one refusal; then nothing was begun.
     pub fn transfer(&mut self, from: u32, to: u32, amount: u64) -> Result<(), AllocError>
         requires rest { IsAtRest self.old }
-        requires from { from < account_count self.old }
-        requires to { to < account_count self.old }
+        requires from { from < cell_count self.old }
+        requires to { to < cell_count self.old }
         requires two { from ≢ to }
         requires enough { amount ≤ slice_index (balances self.old) from }
         requires fits { slice_index (balances self.old) to + amount < 2 ^ 64 }
@@ -121,8 +107,20 @@ impl AccountStore {
     {
         let less = self.balance(from) - amount;
         let more = self.balance(to) + amount;
-        planned_write_law();
-        plan_transfer(&mut self.cells, [from, to], [less, more])?;
+        let writes = [
+            Write {
+                line: from,
+                word: 0,
+                value: less,
+            },
+            Write {
+                line: to,
+                word: 0,
+                value: more,
+            },
+        ];
+        column_laws();
+        self.cells.write(writes.as_slice())?;
         Ok(())
     }
 
@@ -134,12 +132,7 @@ impl AccountStore {
         ensures stage { self.new.stage ≢ Stage.Open }
         ensures whole { IsAccountStore self.new }
     {
-        let count = self.cells.close_begin();
-        self.stage = if count == 0 {
-            Stage::Fenced
-        } else {
-            Stage::WritingBack
-        };
+        self.cells.checkpoint();
     }
 
     /// Makes the next event, and says whether there was one. It takes no memory.
@@ -151,15 +144,7 @@ impl AccountStore {
         ensures none { result ≡ false → (self.new ≡ self.old) × (IsAtRest self.old ⊎ IsSpent self.old) }
         ensures whole { IsAccountStore self.new }
     {
-        let stage = self.stage;
-        if stage == Stage::Open && self.cells.left() == 0 {
-            return false;
-        }
-        if stage == Stage::Fenced && self.epoch.epoch() == u32::MAX {
-            return false;
-        }
-        self.stage = next_event(&mut self.cells, &mut self.epoch, stage);
-        true
+        self.cells.step()
     }
 
     /// Makes all events that are left: the store is at rest, or memory has had its last epoch. It takes no memory.
@@ -173,22 +158,13 @@ impl AccountStore {
     }
 }
 
-/// The words of new accounts with these balances.
-fn cells_of(alloc: Global, first: &[u64]) -> Result<Vec<[u64; 8]>, AllocError>
-    ensures { IfOk result (λ base. base.items ≡ map account_words first.now) }
+/// The records of new accounts with these balances.
+fn records_of(alloc: Global, first: &[u64]) -> Result<Vec<[u64; 3]>, AllocError>
+    ensures { IfOk result (λ records. records.items ≡ map account_record first.now) }
 {
-    let mut base = Vec::new(alloc);
+    let mut records = Vec::new(alloc);
     for balance in first {
-        base.push([*balance, 0, 0, 0, 0, 0, 0, 0])?;
+        records.push([*balance, 0, 0])?;
     }
-    Ok(base)
-}
-
-/// The words of a new super room.
-fn epoch_of(alloc: Global) -> Result<Vec<[u64; 8]>, AllocError>
-    ensures { IfOk result (λ base. base.items ≡ epoch_words ∷ []) }
-{
-    let mut base = Vec::new(alloc);
-    base.push([1, 0, 0, 0, 0, 0, 0, 0])?;
-    Ok(base)
+    Ok(records)
 }

@@ -3,7 +3,7 @@
 //! fences the next epoch.
 
 ghost use Rattle.std.specs.Prelude.{◌≡◌};
-ghost use Rattle.account_store.specs.Accounts.{IsAtRest};
+ghost use Rattle.epoch_cells.specs.Cells.{IsAtRest};
 
 use crate::{AccountStore, cut_law};
 use line_memory::Bank;

@@ -2,7 +2,7 @@ use Rattle.std.proofs.Common.{◌≡◌, ℕ, List, Result, Ok, IfOk, ap, sym, �
 use Rattle.line_memory.specs.Line.{BankState, quiet_bank}
 use Rattle.room_model.specs.Image.{surviving_lines}
 use Rattle.store_order.specs.Choice.{kept_of}
-use Rattle.account_store.specs.Accounts.{CanRecover, left_of}
+use Rattle.epoch_cells.specs.Cells.{CanRecover, left_of}
 use Rattle.account_store.proofs.tests.after_cut.Goals as goal
 
 -- the value of an answer that is `Ok`

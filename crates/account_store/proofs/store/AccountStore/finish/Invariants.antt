@@ -1,5 +1,6 @@
 use Rattle.std.proofs.Common.{◌≡◌}
-use Rattle.account_store.specs.Accounts.{balances, settled, events_left}
+use Rattle.epoch_cells.specs.Cells.{events_left}
+use Rattle.account_store.specs.Accounts.{balances, settled}
 use Rattle.account_store.proofs.store.AccountStore.finish.Given as goal
 
 abbrev pub invariant-loop : goal.invariant-loop
