@@ -142,6 +142,16 @@ def saves():
     yield case("check", 8, "standard output is full in the middle", STATE[:20], stdout="file", limit=2300, filled=2280)
     yield case("check", 0, "all is well", STATE)
     yield case("check", 0, "standard input is closed", STATE, stdin="closed")
+    # A drill reads no script and uses no image.
+    text = (formats.ROOT / "docs/formats.md").read_text(encoding="utf-8")
+    summary = re.search(r"```\n(drill 1\n.*?)```", text, re.S)[1].encode()
+    drill = {"words": ["drill", "1"], "script": b""}
+    yield case("drill", 0, "all is well", summary, **drill)
+    yield case("drill", 0, "no image and a closed source", summary, before=None, stdin="closed", words=["drill", "1"])
+    yield case("drill", 8, "standard output is full", stdout="full", **drill)
+    yield case("drill", 8, "standard output is closed", stdout="closed", **drill)
+    yield case("drill", 8, "nobody reads standard output", stdout="unread", **drill)
+    yield case("drill", 8, "standard output is full in the middle", summary[:20], stdout="file", limit=2300, filled=2280, **drill)
     yield case("check", 5, "standard error is closed", before=b"", stderr="closed")
     yield case("check", 5, "standard error is full", before=b"", stderr="full")
 

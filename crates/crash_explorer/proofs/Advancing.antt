@@ -1,21 +1,15 @@
 -- An odometer of counts: each goes on to the next, and all are met.
 use Rattle.std.proofs.Common.{◌≡◌, ℕ, zero, suc, ◌+◌, ◌*◌, ◌<◌, ◌≤◌, Bool, true, false, cond, nat_lt, List, [], ◌∷◌, length, slice_index, set, replicate, ap, refl, arith, inl, inr, ◌⊎◌, ltb-true, ltb-false, le-ltb, lt-ltb}
 use Rattle.std.proofs.lemmas.Bool.{cases_lt}
-use Rattle.std.proofs.Math.Nat.{mul-le-mul_left, mul-add}
+use Rattle.std.proofs.Math.Nat.{mul-add}
 use Rattle.crash_explorer.specs.Cut.{AreWithin}
-use Rattle.crash_explorer.specs.Order.{Earlier, ahead}
+use Rattle.crash_explorer.specs.Order.{Earlier, advanced, ahead, survivor_count}
 
 -- whether counts come behind these
 abbrev pub has_next : List ℕ → List ℕ → Bool
 has_next [] ms = false
 has_next (k ∷ ks) [] = false
 has_next (k ∷ ks) (m ∷ ms) = cond (nat_lt k m) true (has_next ks ms)
-
--- the counts behind these, the first line fastest
-abbrev pub advanced : List ℕ → List ℕ → List ℕ
-advanced [] ms = []
-advanced (k ∷ ks) [] = k ∷ ks
-advanced (k ∷ ks) (m ∷ ms) = cond (nat_lt k m) ((k + 1) ∷ ks) (0 ∷ advanced ks ms)
 
 -- the first so many counts as they are, and the counts behind the rest
 abbrev pub advanced_from : ℕ → List ℕ → List ℕ → List ℕ
@@ -134,19 +128,38 @@ last-earlier (k ∷ ks) (m ∷ ms) (v ∷ vs) w none wv = by (λ ends. last-earl
       | inr p ↦ same_or_less v k vs ks p (omega (arith, ltb-false k m is, wv.0))
     ]
 
--- the next counts have fewer behind them
-pub next-nearer : (ks ms : List ℕ) → AreWithin ks ms → has_next ks ms ≡ true → ahead (advanced ks ms) ms < ahead ks ms
+-- the next counts have one less behind them
+pub next-nearer : (ks ms : List ℕ) → AreWithin ks ms → has_next ks ms ≡ true → ahead (advanced ks ms) ms + 1 ≡ ahead ks ms
 next-nearer [] ms w more = cc
 next-nearer (k ∷ ks) [] w more = absurd w
 next-nearer (k ∷ ks) (m ∷ ms) w more = by (next-nearer ks ms w.1) (nat_lt k m) refl more
   where
-    by : (has_next ks ms ≡ true → ahead (advanced ks ms) ms < ahead ks ms) → (b : Bool) → nat_lt k m ≡ b → cond b true (has_next ks ms) ≡ true
-        → ahead (cond b ((k + 1) ∷ ks) (0 ∷ advanced ks ms)) (m ∷ ms) < ahead (k ∷ ks) (m ∷ ms)
+    by : (has_next ks ms ≡ true → ahead (advanced ks ms) ms + 1 ≡ ahead ks ms) → (b : Bool) → nat_lt k m ≡ b → cond b true (has_next ks ms) ≡ true
+        → ahead (cond b ((k + 1) ∷ ks) (0 ∷ advanced ks ms)) (m ∷ ms) + 1 ≡ ahead (k ∷ ks) (m ∷ ms)
     by ih true is goes = omega (arith, ltb-true k m is)
     by ih false is goes =
-        let less : ahead (advanced ks ms) ms + 1 ≤ ahead ks ms = omega (arith, ih goes) in
-        let more_of : (m + 1) * (ahead (advanced ks ms) ms + 1) ≤ (m + 1) * ahead ks ms = mul-le-mul_left (m + 1) less in
+        let full : k ≡ m = omega (arith, ltb-false k m is, w.0) in
+        let rest : (m + 1) * (ahead (advanced ks ms) ms + 1) ≡ (m + 1) * ahead ks ms = ap (λ (n : ℕ). (m + 1) * n) (ih goes) in
         omega (arith, mul-add (m + 1) (ahead (advanced ks ms) ms) 1)
+
+-- the last counts have none behind them
+pub last-ahead : (ks ms : List ℕ) → AreWithin ks ms → has_next ks ms ≡ false → ahead ks ms ≡ 0
+last-ahead [] ms w none = refl
+last-ahead (k ∷ ks) [] w none = refl
+last-ahead (k ∷ ks) (m ∷ ms) w none = by (last-ahead ks ms w.1) (nat_lt k m) refl none
+  where
+    by : (has_next ks ms ≡ false → ahead ks ms ≡ 0) → (b : Bool) → nat_lt k m ≡ b → cond b true (has_next ks ms) ≡ false → ahead (k ∷ ks) (m ∷ ms) ≡ 0
+    by ih true is ends = cc
+    by ih false is ends =
+        let rest : (m + 1) * ahead ks ms ≡ (m + 1) * 0 = ap (λ (n : ℕ). (m + 1) * n) (ih ends) in
+        omega (arith, ltb-false k m is, w.0)
+
+-- the first counts have all others behind them
+pub first-ahead : (ms : List ℕ) → ahead (replicate (length ms) 0) ms + 1 ≡ survivor_count ms
+first-ahead [] = refl
+first-ahead (m ∷ ms) =
+    let rest : (m + 1) * (ahead (replicate (length ms) 0) ms + 1) ≡ (m + 1) * survivor_count ms = ap (λ (n : ℕ). (m + 1) * n) (first-ahead ms) in
+    omega (arith, mul-add (m + 1) (ahead (replicate (length ms) 0) ms) 1)
 
 -- nothing comes before the first counts
 pub none_earlier : (n : ℕ) (vs : List ℕ) → Earlier vs (replicate n 0) → ⊥

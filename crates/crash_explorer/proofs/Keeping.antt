@@ -1,5 +1,5 @@
 -- What lines keep by counts, and that counts name every survivor.
-use Rattle.std.proofs.Common.{◌≡◌, ℕ, zero, suc, ◌+◌, ◌<◌, true, List, [], ◌∷◌, length, min, slice_index, ap, sym, ◌∙◌, refl, subst, arith, eq-eqb, ne_eqb, inl, inr}
+use Rattle.std.proofs.Common.{◌≡◌, ℕ, zero, suc, ◌+◌, ◌<◌, List, [], ◌∷◌, length, min, slice_index, ap, sym, ◌∙◌, refl, subst, arith, eq-eqb, ne_eqb, inl, inr}
 use Rattle.std.proofs.lemmas.Bool.{cases_lt}
 use Rattle.std.proofs.lemmas.List.{take_all}
 use Rattle.line_memory.specs.Line.{LineState, survivor, line_at, applied}
@@ -8,7 +8,7 @@ use Rattle.store_order.specs.declared.choice.Kept.{Kept}
 use Rattle.store_order.specs.declared.choice.Choice.TheVariants.{List as Listed}
 use Rattle.store_order.specs.Choice.{count_listed, kept_of}
 use Rattle.std.specs.Global.{Vec}
-use Rattle.crash_explorer.specs.Cut.{Cut, AreWithin, pending_of, by_counts, is_right, is_allowed, IsSafe}
+use Rattle.crash_explorer.specs.Cut.{AreWithin, bare, pending_of, by_counts, left_by}
 use Rattle.crash_explorer.specs.Listed.{listed}
 use Rattle.crash_explorer.proofs.Advancing.{within-at, within-length}
 
@@ -71,13 +71,23 @@ pub clamped-left : (f : ℕ → ℕ) (i : ℕ) (ls : List LineState) → left_of
 clamped-left f i [] = refl
 clamped-left f i (l ∷ ls) = ap (λ (ws : List ℕ). ws ∷ left_of (clamped f (suc i) ls) ls) (survivor-min l (f i)) ∙ ap (λ (xs : List (List ℕ)). survivor l (f i) ∷ xs) (clamped-left f (suc i) ls)
 
--- where all counts leave survivors that are right, every survivor is
-pub safe_by_counts : (steps : ℕ) (cut : Cut) → ((v : List ℕ) → AreWithin v (pending_of cut.lines) → is_right steps cut (by_counts v) ≡ true) → IsSafe steps cut
-safe_by_counts steps cut all choice =
-    let v = clamped choice 0 cut.lines in
-    let w = clamped-within choice 0 cut.lines in
-    let same : surviving_lines (by_counts v) 0 cut.lines ≡ surviving_lines choice 0 cut.lines = left_of-own v cut.lines w ∙ clamped-left choice 0 cut.lines in
-    subst (λ (words : List (List ℕ)). is_allowed cut.allows (cut.recovered steps words) ≡ true) same (all v w)
+-- what holds of what all counts leave holds of every survivor
+pub all_by_counts : (P : List (List ℕ) → Type 0) (ls : List LineState) → ((v : List ℕ) → AreWithin v (pending_of ls) → P (left_by v ls)) → (choice : ℕ → ℕ) → P (surviving_lines choice 0 ls)
+all_by_counts P ls all choice =
+    let v = clamped choice 0 ls in
+    let w = clamped-within choice 0 ls in
+    let same : surviving_lines (by_counts v) 0 ls ≡ surviving_lines choice 0 ls = left_of-own v ls w ∙ clamped-left choice 0 ls in
+    subst P same (all v w)
+
+-- lines keep the same without their room
+pub bare-left : (f : ℕ → ℕ) (i : ℕ) (ls : List LineState) → surviving_lines f i (bare ls) ≡ surviving_lines f i ls
+bare-left f i [] = refl
+bare-left f i (l ∷ ls) = ap (λ (xs : List (List ℕ)). survivor l (f i) ∷ xs) (bare-left f (suc i) ls)
+
+-- and as many stores are pending on them
+pub bare-pending : (ls : List LineState) → pending_of (bare ls) ≡ pending_of ls
+bare-pending [] = refl
+bare-pending (l ∷ ls) = ap (λ (xs : List ℕ). length l.pending ∷ xs) (bare-pending ls)
 
 -- the list of entries leaves what the counts leave
 pub listed-left : (ks : List ℕ) (entries : Vec Kept) (ls : List LineState) → entries.items ≡ listed 0 ks → AreWithin ks (pending_of ls) → surviving_lines (kept_of (Listed entries) 0 ls) 0 ls ≡ surviving_lines (by_counts ks) 0 ls

@@ -1,6 +1,10 @@
 pub mod Advancing
 pub mod Keeping
+pub mod Lines
 pub mod Counting
 pub mod Finding
 pub mod Samples
+pub mod Efforts
+pub mod Cuts
+pub mod Inner
 pub mod Running

@@ -1,8 +1,12 @@
 pub mod Cut
 pub mod Order
 pub mod Listed
+pub mod Effort
 pub mod Better
-pub mod Answers
 pub mod Sample
+pub mod Inside
+pub mod Answers
+pub mod Depth
+pub mod Verdicts
 pub mod Runs
 pub mod Tests

@@ -16,7 +16,7 @@ pub enum Answer {
 pub struct Tally {
     /// How many events were made; behind each there was a cut.
     pub events: u32,
-    /// How many survivors were recovered.
+    /// How many survivors were recovered, those of cuts inside recovery among them.
     pub survivors: u64,
     /// Whether these were all survivors of each cut.
     pub all: bool,
@@ -24,7 +24,7 @@ pub struct Tally {
     pub ended: bool,
 }
 
-/// A survivor that does not recover to an allowed state.
+/// A survivor that does not recover to an allowed state, or does not where its recovery is cut.
 #[derive(Debug, Drop)]
 pub struct Wrong {
     /// The number of the event behind which the power was cut, from 1 on.
@@ -33,6 +33,19 @@ pub struct Wrong {
     pub kept: Vec<u32>,
     /// How many stores are pending on each line.
     pub pending: Vec<u32>,
-    /// What recovery came to.
+    /// The cuts inside recovery, each in the recovery from the one before; none where recovery is not cut.
+    pub inside: Vec<CutInside>,
+    /// What the last recovery came to.
     pub outcome: Outcome,
+}
+
+/// A cut inside recovery.
+#[derive(Debug, Drop)]
+pub struct CutInside {
+    /// The number of the event of recovery behind which the power was cut, from 1 on.
+    pub event: u32,
+    /// How many of its pending stores each line keeps.
+    pub kept: Vec<u32>,
+    /// How many stores are pending on each line.
+    pub pending: Vec<u32>,
 }

@@ -1,14 +1,23 @@
 //! Counts of stores, one for each line.
 
-ghost use Rattle.std.specs.Prelude.{◌≡◌, ℕ, ◌<◌, ◌≤◌, ◌^◌, ◌⊎◌, true, false, IfOk, IsTrue, List, length, sum, slice_index, IfSome, Option, None, replicate};
-ghost use Rattle.crash_explorer.specs.Cut.{AreWithin, pending_of};
-ghost use Rattle.crash_explorer.specs.Order.{Earlier, ahead, survivor_count};
+ghost use Rattle.std.specs.Prelude.{◌≡◌, ℕ, ◌+◌, ◌<◌, ◌≤◌, ◌^◌, ◌⊎◌, true, false, IfOk, IsTrue, List, length, sum, slice_index, IfSome, Option, None, replicate};
+ghost use Rattle.crash_explorer.specs.Cut.{AreWithin, bare, pending_of};
+ghost use Rattle.crash_explorer.specs.Order.{Earlier, advanced, ahead, survivor_count};
 
 use line_memory::Bank;
 use std::alloc::{AllocError, Global};
 
 /// How many stores are pending on each line.
 pub(crate) fn pending_counts(alloc: Global, bank: &Bank) -> Result<Vec<u32>, AllocError>
+    ensures is { IfOk result (λ most. most.items ≡ pending_of (bare bank.now.lines)) }
+    ensures few { IfOk result (λ most. length most.items < 2 ^ 32) }
+{
+    let most = counts_of(alloc, bank)?;
+    Ok(most)
+}
+
+/// The same by the lines with their room.
+fn counts_of(alloc: Global, bank: &Bank) -> Result<Vec<u32>, AllocError>
     ensures is { IfOk result (λ most. most.items ≡ pending_of bank.now.lines) }
     ensures few { IfOk result (λ most. length most.items < 2 ^ 32) }
 {
@@ -24,8 +33,10 @@ pub(crate) fn advance(kept: &mut Vec<u32>, most: &[u32]) -> bool
     requires { AreWithin kept.old.items most.now }
     ensures within { AreWithin kept.new.items most.now }
     ensures next { IsTrue result → (v : List ℕ) → AreWithin v most.now → Earlier v kept.new.items → Earlier v kept.old.items ⊎ (v ≡ kept.old.items) }
-    ensures nearer { IsTrue result → ahead kept.new.items most.now < ahead kept.old.items most.now }
+    ensures is { IsTrue result → kept.new.items ≡ advanced kept.old.items most.now }
+    ensures nearer { IsTrue result → ahead kept.new.items most.now + 1 ≡ ahead kept.old.items most.now }
     ensures last { result ≡ false → (v : List ℕ) → AreWithin v most.now → Earlier v kept.old.items ⊎ (v ≡ kept.old.items) }
+    ensures none { result ≡ false → ahead kept.old.items most.now ≡ 0 }
 {
     turn(kept.as_mut_slice(), most)
 }
@@ -35,8 +46,10 @@ fn turn(kept: &mut [u32], most: &[u32]) -> bool
     requires { AreWithin kept.old most.now }
     ensures within { AreWithin kept.new most.now }
     ensures next { IsTrue result → (v : List ℕ) → AreWithin v most.now → Earlier v kept.new → Earlier v kept.old ⊎ (v ≡ kept.old) }
-    ensures nearer { IsTrue result → ahead kept.new most.now < ahead kept.old most.now }
+    ensures is { IsTrue result → kept.new ≡ advanced kept.old most.now }
+    ensures nearer { IsTrue result → ahead kept.new most.now + 1 ≡ ahead kept.old most.now }
     ensures last { result ≡ false → (v : List ℕ) → AreWithin v most.now → Earlier v kept.old ⊎ (v ≡ kept.old) }
+    ensures none { result ≡ false → ahead kept.old most.now ≡ 0 }
     ensures many { length kept.new ≡ length kept.old }
 {
     for i in 0..kept.len() {

@@ -1,70 +1,143 @@
-//! All survivors of a cut, one after the other, and the first of them that is wrong.
+//! A cut and its survivors, one after the other; and inside the recovery of each the next cuts, to a depth.
 
-ghost use Rattle.std.specs.Prelude.{◌≡◌, ◌<◌, ◌^◌, IfOk, IsTrue, ◌↔◌, length, sum};
-ghost use Rattle.crash_explorer.specs.Cut.{pending_of};
-ghost use Rattle.crash_explorer.specs.Answers.{IsWholeAnswer};
-ghost use Rattle.crash_explorer.specs.Better.{IsFewer, IsBetter};
+ghost use Rattle.std.specs.Prelude.{◌≡◌, ◌<◌, ◌^◌, IfOk, length};
+ghost use Rattle.crash_explorer.specs.Cut.{bare, pending_of};
+ghost use Rattle.crash_explorer.specs.Verdicts.{IsCutVerdict, IsLeftVerdict, IsSampleVerdict, IsWholeVerdict};
 
-use crate::counts::{advance, copied, stores, zeros};
-use crate::outcome::Outcome;
+use crate::counts::{advance, counted, pending_counts, zeros};
+use crate::effort::Effort;
+use crate::leaving::words_left;
+use crate::plan::Plan;
+use crate::recovering::{Once, lines_behind, recover_once};
+use crate::sampling::sampled;
+use crate::search::{Search, found_by, of_search, weighed};
 use crate::subject::Subject;
-use crate::trial::{Found, try_counts};
+use crate::verdict::{CutVerdict, LeftVerdict, Miss, miss_inside};
+use line_memory::Bank;
 use std::alloc::{AllocError, Global};
 
-/// Whether so many stores are fewer than those of the best that was found.
-fn is_fewer(stores: u64, best: &Option<Found>) -> bool
-    ensures { IsTrue result ↔ IsFewer stores best.now }
-{
-    match best {
-        Some(found) => stores < found.stores,
-        None => true,
-    }
-}
-
-/// The better of what was found and a survivor that was tried now: the one that keeps fewer stores, and of equal ones the earlier.
-fn better(
-    alloc: Global,
-    best: Option<Found>,
-    kept: &[u32],
-    outcome: Option<Outcome>,
-) -> Result<Option<Found>, AllocError>
-    requires { length kept.now < 2 ^ 32 }
-    ensures { IfOk result (IsBetter best kept.now outcome) }
-{
-    let Some(outcome) = outcome else {
-        return Ok(best);
-    };
-    let stores = stores(kept);
-    if !is_fewer(stores, &best) {
-        return Ok(best);
-    }
-    let kept = copied(alloc, kept)?;
-    Ok(Some(Found {
-        kept,
-        stores,
-        outcome,
-    }))
-}
-
-/// Recovers every survivor of a cut, and gives the first in order that is wrong: that which keeps the fewest stores. `most` is how many
-/// stores are pending on each line.
-pub(crate) fn try_all<S: Subject>(
+/// Recovers from these words that a cut left, and where the depth is not 0 tries the cut behind each event of that recovery, until
+/// something is wrong.
+#[cycle(depth)]
+fn try_left<S: Subject>(
     alloc: Global,
     subject: &S,
-    most: &[u32],
-    steps: u32,
-) -> Result<Option<Found>, AllocError>
-    requires lines { most.now ≡ pending_of (S.cut subject.now).lines }
-    requires few { length most.now < 2 ^ 32 }
-    ensures { IfOk result (IsWholeAnswer steps (S.cut subject.now)) }
+    left: &[[u64; 8]],
+    plan: &Plan,
+    depth: u32,
+) -> Result<LeftVerdict, AllocError>
+    ensures { IfOk result (IsLeftVerdict plan.now (S.cut subject.now) depth left.now) }
 {
-    let mut kept = zeros(alloc, most.len())?;
-    let mut best: Option<Found> = None;
-    'survivors: loop {
-        let outcome = try_counts(alloc, subject, kept.as_slice(), steps)?;
-        best = better(alloc, best, kept.as_slice(), outcome)?;
-        if !advance(&mut kept, most) {
-            return Ok(best);
+    let Once { events, wrong } = recover_once(alloc, subject, left, plan.steps)?;
+    match wrong {
+        Some(outcome) => {
+            return Ok(LeftVerdict::Wrong(Miss {
+                inside: Vec::new(alloc),
+                outcome,
+            }));
+        }
+        None => {}
+    }
+    let mut effort = Effort::none();
+    if depth == 0 {
+        return Ok(LeftVerdict::Clean(effort));
+    }
+    for i in 0..events {
+        let bank = lines_behind(alloc, subject, left, i)?;
+        let most = pending_counts(alloc, &bank)?;
+        let counts = most.as_slice();
+        let verdict = try_cut(alloc, subject, &bank, counts, plan, depth - 1)?;
+        match verdict {
+            CutVerdict::Clean(more) => effort = effort.and(more),
+            CutVerdict::Wrong(found) => {
+                return Ok(LeftVerdict::Wrong(miss_inside(i + 1, most, found)?));
+            }
         }
     }
+    Ok(LeftVerdict::Clean(effort))
+}
+
+/// Tries the survivors of a cut of these lines: all of them, or beyond the budget a sample. `most` is how many stores are pending on each
+/// line.
+#[cycle(depth)]
+pub(crate) fn try_cut<S: Subject>(
+    alloc: Global,
+    subject: &S,
+    bank: &Bank,
+    most: &[u32],
+    plan: &Plan,
+    depth: u32,
+) -> Result<CutVerdict, AllocError>
+    requires lines { most.now ≡ pending_of (bare bank.now.lines) }
+    requires few { length most.now < 2 ^ 32 }
+    ensures { IfOk result (IsCutVerdict plan.now (S.cut subject.now) depth (bare bank.now.lines)) }
+{
+    match counted(most, plan.budget) {
+        Some(_survivors) => try_all(alloc, subject, bank, most, plan, depth),
+        None => try_sample(alloc, subject, bank, most, plan, depth),
+    }
+}
+
+/// Tries every survivor, and gives the first in order that is wrong: that which keeps the fewest stores.
+#[cycle(depth)]
+fn try_all<S: Subject>(
+    alloc: Global,
+    subject: &S,
+    bank: &Bank,
+    most: &[u32],
+    plan: &Plan,
+    depth: u32,
+) -> Result<CutVerdict, AllocError>
+    requires lines { most.now ≡ pending_of (bare bank.now.lines) }
+    requires few { length most.now < 2 ^ 32 }
+    ensures { IfOk result (IsWholeVerdict plan.now (S.cut subject.now) depth (bare bank.now.lines)) }
+{
+    let mut kept = zeros(alloc, most.len())?;
+    let mut search = Search {
+        best: None,
+        effort: Effort::none(),
+    };
+    'survivors: loop {
+        let counts = kept.as_slice();
+        let left = words_left(alloc, bank, counts)?;
+        let words = left.as_slice();
+        let verdict = try_left(alloc, subject, words, plan, depth)?;
+        search = weighed(alloc, search, counts, verdict)?;
+        if !advance(&mut kept, most) {
+            return Ok(of_search(search));
+        }
+    }
+}
+
+/// Tries the survivors of the plan's sample in their order, until one is wrong.
+#[cycle(depth)]
+fn try_sample<S: Subject>(
+    alloc: Global,
+    subject: &S,
+    bank: &Bank,
+    most: &[u32],
+    plan: &Plan,
+    depth: u32,
+) -> Result<CutVerdict, AllocError>
+    requires lines { most.now ≡ pending_of (bare bank.now.lines) }
+    requires few { length most.now < 2 ^ 32 }
+    ensures { IfOk result (IsSampleVerdict plan.now (S.cut subject.now) depth (bare bank.now.lines)) }
+{
+    let seeds = plan.seeds.as_slice();
+    let mut effort = Effort::none();
+    for j in 0..seeds.len() + 2 {
+        let kept = sampled(alloc, most, seeds, j)?;
+        let counts = kept.as_slice();
+        let left = words_left(alloc, bank, counts)?;
+        let words = left.as_slice();
+        let verdict = try_left(alloc, subject, words, plan, depth)?;
+        match verdict {
+            LeftVerdict::Clean(inside) => effort = effort.and_survivor(inside),
+            LeftVerdict::Wrong(miss) => return Ok(CutVerdict::Wrong(found_by(kept, miss))),
+        }
+    }
+    Ok(CutVerdict::Clean(Effort {
+        survivors: effort.survivors,
+        all: false,
+    }))
 }

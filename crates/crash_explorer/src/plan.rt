@@ -11,4 +11,6 @@ pub struct Plan {
     pub seeds: Vec<u64>,
     /// How many steps a recovery may take.
     pub steps: u32,
+    /// How often the power is cut again, inside the recovery from the cut before; 0 cuts no recovery.
+    pub depth: u32,
 }

@@ -1,14 +1,11 @@
 //! A sample of a cut's survivors: that which keeps nothing, that which keeps all, and those that seeds draw.
 
-ghost use Rattle.std.specs.Prelude.{◌≡◌, ◌<◌, ◌+◌, ◌^◌, IfOk, length};
+ghost use Rattle.std.specs.Prelude.{◌≡◌, ◌<◌, ◌+◌, IfOk, length};
 ghost use Rattle.store_order.specs.declared.choice.Choice.TheVariants.{Seed};
-ghost use Rattle.crash_explorer.specs.Cut.{pending_of};
-ghost use Rattle.crash_explorer.specs.Sample.{IsSampleAnswer, AreKeptBy, sample};
+ghost use Rattle.crash_explorer.specs.Sample.{AreKeptBy, sample};
 ghost use Rattle.rand_xoshiro.specs.SplitMix64.{mix_u64, next_state};
 
-use crate::counts::{copied, stores, zeros};
-use crate::subject::Subject;
-use crate::trial::{Found, try_counts};
+use crate::counts::{copied, zeros};
 use rand_core::utils::NextWord;
 use rand_xoshiro::SplitMix64;
 use std::alloc::{AllocError, Global};
@@ -27,7 +24,12 @@ fn drawn(alloc: Global, most: &[u32], seed: u64) -> Result<Vec<u32>, AllocError>
 }
 
 /// The counts of choice number `j` of a sample.
-fn sampled(alloc: Global, most: &[u32], seeds: &[u64], j: usize) -> Result<Vec<u32>, AllocError>
+pub(crate) fn sampled(
+    alloc: Global,
+    most: &[u32],
+    seeds: &[u64],
+    j: usize,
+) -> Result<Vec<u32>, AllocError>
     requires { j < length seeds.now + 2 }
     ensures { IfOk result (λ kept. AreKeptBy (sample seeds.now j) most.now kept.items) }
 {
@@ -44,35 +46,4 @@ fn next_drawn(words: &mut SplitMix64) -> u64
     ensures state { words.new ≡ next_state words.old }
 {
     words.next_word()
-}
-
-/// Recovers the survivors of a sample, in their order, and gives the first that is wrong. `most` is how many stores are pending on each
-/// line.
-pub(crate) fn try_sample<S: Subject>(
-    alloc: Global,
-    subject: &S,
-    most: &[u32],
-    seeds: &[u64],
-    steps: u32,
-) -> Result<Option<Found>, AllocError>
-    requires lines { most.now ≡ pending_of (S.cut subject.now).lines }
-    requires few { length most.now < 2 ^ 32 }
-    ensures { IfOk result (IsSampleAnswer steps seeds.now (S.cut subject.now)) }
-{
-    for j in 0..seeds.len() + 2 {
-        let kept = sampled(alloc, most, seeds, j)?;
-        let outcome = try_counts(alloc, subject, kept.as_slice(), steps)?;
-        match outcome {
-            Some(outcome) => {
-                let stores = stores(kept.as_slice());
-                return Ok(Some(Found {
-                    kept,
-                    stores,
-                    outcome,
-                }));
-            }
-            None => {}
-        }
-    }
-    Ok(None)
 }

@@ -1,9 +1,9 @@
 //! Stores under test.
 
 ghost use Rattle.std.specs.Prelude.{◌≡◌, Bool, true, IfOk, List};
-ghost use Rattle.crash_explorer.specs.Cut.{Cut, outcome_state};
+ghost use Rattle.crash_explorer.specs.Cut.{Cut, IsRecovered, bare};
 
-use crate::outcome::Outcome;
+use crate::recovered::Recovered;
 use line_memory::Bank;
 use std::alloc::{AllocError, Global};
 
@@ -23,11 +23,17 @@ pub trait Subject {
 
     /// The lines as they are now.
     fn bank(&self) -> &Bank
-        ensures { result.now.lines ≡ (cut self.now).lines };
+        ensures { bare result.now.lines ≡ (cut self.now).lines };
 
-    /// Recovers from these words of the lines, in so many steps at the most. It reads nothing of the running store but its settings.
-    fn recover(&self, alloc: Global, left: Vec<[u64; 8]>, steps: u32) -> Result<Outcome, AllocError>
-        ensures { IfOk result (λ outcome. outcome_state outcome ≡ (cut self.now).recovered steps left.items) };
+    /// Recovers from these words of the lines, in so many steps at the most, and leaves the lines as they then are. A step is an event
+    /// of recovery: a store, a write-back or a fence. It reads nothing of the running store but its settings.
+    fn recover(
+        &self,
+        alloc: Global,
+        left: Vec<[u64; 8]>,
+        steps: u32,
+    ) -> Result<Recovered, AllocError>
+        ensures { IfOk result (IsRecovered ((cut self.now).recovered steps left.items)) };
 
     /// Whether a cut now may recover to this state, by what the store has acknowledged.
     fn is_allowed(&self, state: &[u64]) -> bool

@@ -1,5 +1,5 @@
 -- A state as it is printed.
-use Rattle.std.proofs.Common.{◌≡◌, ℕ, Option, Some, List, [], ◌∷◌, ◌++◌, refl, ap, ◌∙◌, codes}
+use Rattle.std.proofs.Common.{◌≡◌, ℕ, Option, Some, List, [], ◌∷◌, refl, ap, codes}
 use Rattle.std.specs.Fmt.{decimal, debug_items, debug_list, option_append}
 use Rattle.explore_example.specs.Words.{values_text, state_text}
 

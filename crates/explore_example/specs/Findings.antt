@@ -1,5 +1,5 @@
 -- What is found of a store: the answer of a run from its beginning, in words.
-use Rattle.std.specs.Prelude.{◌≡◌, ℕ, ◌<◌, ◌≤◌, false, List, [], ◌∷◌, ◌++◌, length, slice_index_or, codes, replicate}
+use Rattle.std.specs.Prelude.{◌≡◌, ℕ, ◌≤◌, false, List, [], ◌∷◌, ◌++◌, length, codes, replicate}
 use Rattle.line_memory.specs.Line.{BankState, line_at}
 use Rattle.crash_explorer.specs.declared.plan.Plan.{Plan}
 use Rattle.crash_explorer.specs.declared.answer.Answer.{Answer}
@@ -17,8 +17,9 @@ pub record IsQuietLine (bank : BankState) (line : ℕ) (words : List ℕ) : Type
   pub pending : (line_at bank.lines line).pending ≡ []
   pub room : 8 ≤ (line_at bank.lines line).spare
 
--- a store of these events of which none has happened, with variables of 0 and the epoch 1
-pub record IsFresh (events : List Event) (s : Running) : Type 0 where
+-- a store with this mistake and these events, of which none has happened, with variables of 0 and the epoch 1
+pub record IsFresh (mistake : Mistake) (events : List Event) (s : Running) : Type 0 where
+  pub wrong : s.mistake ≡ mistake
   pub has : s.events.items ≡ events
   pub at : s.at ≡ 0
   pub values : s.values ≡ 0 ∷ 0 ∷ []
@@ -29,10 +30,13 @@ pub record IsFresh (events : List Event) (s : Running) : Type 0 where
   pub first : IsQuietLine s.bank 1 (replicate 8 0)
   pub second : IsQuietLine s.bank 2 (replicate 8 0)
 
--- how far a store is tried: all survivors of each cut up to 1,000, in at most 1,000 events
+-- how far a store is tried: all survivors of each cut up to 1,000, in at most 1,000 events, with one cut inside each recovery, of at
+-- most 100 events
 pub record IsPlan (plan : Plan) : Type 0 where
   pub events : plan.events ≡ 1000
   pub budget : plan.budget ≡ 1000
+  pub steps : plan.steps ≡ 100
+  pub depth : plan.depth ≡ 1
 
 -- this text tells of the store with this mistake what the explorer answers of it, from its beginning on
 pub record IsFinding (mistake : Mistake) (text : List ℕ) : Type 0 where
@@ -40,7 +44,7 @@ pub record IsFinding (mistake : Mistake) (text : List ℕ) : Type 0 where
   pub last : Running
   pub plan : Plan
   pub answer : Answer
-  pub fresh : IsFresh (all_events mistake) first
+  pub fresh : IsFresh mistake (all_events mistake) first
   pub is_plan : IsPlan plan
   pub found : IsAnswer plan cut_of next goes_on first last answer
   pub told : text ≡ mistake_text mistake ++ codes "\n" ++ answer_text last answer

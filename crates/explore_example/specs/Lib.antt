@@ -1,4 +1,5 @@
 pub mod Events
+pub mod Recoveries
 pub mod Runs
 pub mod Words
 pub mod Findings

@@ -1,8 +1,9 @@
--- What a store's events do, what a cut of it recovers to, and which states are allowed.
-use Rattle.std.specs.Prelude.{◌≡◌, ℕ, ◌+◌, ◌-◌, ◌<◌, ◌≤◌, Bool, true, false, nat_lt, nat_eq, ◌&&◌, ◌||◌, Option, Some, None, List, [], ◌∷◌, length, slice_get, slice_index, slice_index_or, slice_set, if◌then◌else◌}
+-- What a store's events do, what a cut of it meets, and which states are allowed.
+use Rattle.std.specs.Prelude.{ℕ, ◌+◌, ◌-◌, Bool, true, false, nat_lt, nat_eq, ◌&&◌, ◌||◌, Option, None, List, length, slice_get, slice_index_or, slice_set, if◌then◌else◌}
 use Rattle.std.specs.Str.{bytes_eq}
-use Rattle.line_memory.specs.Line.{BankState, line_at, bank_stored, bank_written_back, bank_fenced}
-use Rattle.crash_explorer.specs.Cut.{Cut}
+use Rattle.line_memory.specs.Line.{line_at, bank_stored, bank_written_back, bank_fenced}
+use Rattle.crash_explorer.specs.Cut.{Cut, bare}
+use Rattle.explore_example.specs.Recoveries.{recovery_of}
 use Rattle.explore_example.specs.declared.event.Event.{Event}
 use Rattle.explore_example.specs.declared.event.Event.TheVariants.{Write, Store, WriteBack, Fence, Closing, Closed}
 use Rattle.explore_example.specs.declared.running.Running.{Running}
@@ -28,22 +29,10 @@ next s = happened (slice_index_or s.events.items s.at Fence) (record s { at = s.
 abbrev pub last_event : Running → Option Event
 last_event s = if nat_eq s.at 0 then None else slice_get s.events.items (s.at - 1)
 
--- the value that a cell recovers to at an epoch: its backup where the tag is the epoch, else its record
-abbrev pub value_of : ℕ → List ℕ → ℕ
-value_of epoch cell = if nat_eq (slice_index cell 2) epoch then slice_index cell 1 else slice_index cell 0
-
--- the words of a line that is left
-abbrev pub words_of : List (List ℕ) → ℕ → List ℕ
-words_of lines i = slice_index_or lines i []
-
--- the values that three lines recover to
-abbrev pub values_of : List (List ℕ) → Option (List ℕ)
-values_of lines = if nat_eq (length lines) 3 then Some (value_of (slice_index (words_of lines 0) 0) (words_of lines 1) ∷ value_of (slice_index (words_of lines 0) 0) (words_of lines 2) ∷ []) else None
-
 -- whether a cut may recover to this state: the last checkpoint, or the next one while a closing is under way
 abbrev pub allows : Running → List ℕ → Bool
 allows s state = bytes_eq state s.saved || (s.is_closing && bytes_eq state s.values)
 
 -- what a cut meets
 abbrev pub cut_of : Running → Cut
-cut_of s = record { lines = s.bank.lines; recovered = λ steps lines. values_of lines; allows = allows s }
+cut_of s = record { lines = bare s.bank.lines; recovered = recovery_of s.mistake; allows = allows s }

@@ -1,5 +1,5 @@
 -- What is told of a store, in words.
-use Rattle.std.specs.Prelude.{ℕ, ◌+◌, suc, Bool, true, false, nat_eq, Option, Some, None, List, [], ◌∷◌, ◌++◌, codes, slice_index, if◌then◌else◌}
+use Rattle.std.specs.Prelude.{ℕ, ◌+◌, Bool, nat_eq, Option, Some, None, List, [], ◌∷◌, ◌++◌, codes, slice_index, if◌then◌else◌}
 use Rattle.std.specs.Fmt.{decimal}
 use Rattle.crash_explorer.specs.declared.outcome.Outcome.{Outcome}
 use Rattle.crash_explorer.specs.declared.outcome.Outcome.TheVariants.{State, Refused, Endless}
@@ -7,10 +7,11 @@ use Rattle.crash_explorer.specs.declared.answer.Answer.{Answer}
 use Rattle.crash_explorer.specs.declared.answer.Answer.TheVariants.{Right, Wrong as IsWrong}
 use Rattle.crash_explorer.specs.declared.answer.Tally.{Tally}
 use Rattle.crash_explorer.specs.declared.answer.Wrong.{Wrong}
+use Rattle.crash_explorer.specs.declared.answer.CutInside.{CutInside}
 use Rattle.explore_example.specs.declared.event.Event.{Event}
 use Rattle.explore_example.specs.declared.event.Event.TheVariants.{Write, Store, WriteBack, Fence, Closing, Closed}
 use Rattle.explore_example.specs.declared.mistake.Mistake.{Mistake}
-use Rattle.explore_example.specs.declared.mistake.Mistake.TheVariants.{None as NoMistake, RecordFirst, Unfenced, EpochEarly}
+use Rattle.explore_example.specs.declared.mistake.Mistake.TheVariants.{None as NoMistake, RecordFirst, Unfenced, EpochEarly, RecoveryEarly}
 use Rattle.explore_example.specs.declared.running.Running.{Running}
 use Rattle.explore_example.specs.Runs.{last_event}
 
@@ -29,6 +30,7 @@ mistake_text NoMistake = codes "a right store"
 mistake_text RecordFirst = codes "a record is stored before its backup"
 mistake_text Unfenced = codes "a closing ends without a fence"
 mistake_text EpochEarly = codes "the next epoch is stored before the cells are fenced"
+mistake_text RecoveryEarly = codes "recovery stores the next epoch before it fences the cells"
 
 -- the values of a state, each behind these words and the others behind a comma
 abbrev pub values_text : List ℕ → List ℕ → List ℕ
@@ -47,6 +49,15 @@ line_text line kept pending = if nat_eq pending 0 then [] else codes ", line " +
 abbrev pub lines_text : ℕ → List ℕ → List ℕ → List ℕ
 lines_text line [] pending = []
 lines_text line (kept ∷ more) pending = line_text line kept (slice_index pending line) ++ lines_text (line + 1) more pending
+
+-- a cut inside recovery
+abbrev pub cut_text : CutInside → List ℕ
+cut_text cut = codes ", and behind event " ++ decimal cut.event ++ codes " of its recovery" ++ lines_text 0 cut.kept.items cut.pending.items
+
+-- the cuts inside recovery, each in the recovery from the one before
+abbrev pub inside_text : List CutInside → List ℕ
+inside_text [] = []
+inside_text (cut ∷ cuts) = cut_text cut ++ inside_text cuts
 
 -- what recovery comes to
 abbrev pub outcome_text : Outcome → List ℕ
@@ -73,12 +84,12 @@ last_text number (Some event) = codes "  event " ++ decimal number ++ codes " " 
 -- a survivor that is wrong
 abbrev pub wrong_text : Running → Wrong → List ℕ
 wrong_text s wrong = codes "  cut behind event " ++ decimal wrong.event ++ lines_text 0 wrong.kept.items wrong.pending.items
-    ++ outcome_text wrong.outcome ++ allowed_text s.is_closing s.saved s.values ++ codes "\n" ++ last_text wrong.event (last_event s)
+    ++ inside_text wrong.inside.items ++ outcome_text wrong.outcome ++ allowed_text s.is_closing s.saved s.values ++ codes "\n" ++ last_text wrong.event (last_event s)
 
 -- how much was tried, where each survivor that was tried is right
 abbrev pub right_text : Tally → List ℕ
 right_text tally = codes "  " ++ (if tally.all then codes "all" else codes "some") ++ codes " survivors of " ++ decimal tally.events
-    ++ codes " cuts were tried and allowed: " ++ decimal tally.survivors ++ codes "\n"
+    ++ codes " cuts, and of the cuts inside their recoveries, were tried and allowed: " ++ decimal tally.survivors ++ codes "\n"
 
 -- what an answer says of a store, which stands where the answer left it
 abbrev pub answer_text : Running → Answer → List ℕ

@@ -13,6 +13,8 @@ pub enum Mistake {
     Unfenced,
     /// The next epoch is stored before the cells are fenced.
     EpochEarly,
+    /// Recovery stores the next epoch before it fences the cells.
+    RecoveryEarly,
 }
 
 impl fmt::Display for Mistake {
@@ -28,6 +30,9 @@ impl fmt::Display for Mistake {
             Mistake::RecordFirst => "a record is stored before its backup",
             Mistake::Unfenced => "a closing ends without a fence",
             Mistake::EpochEarly => "the next epoch is stored before the cells are fenced",
+            Mistake::RecoveryEarly => {
+                "recovery stores the next epoch before it fences the cells"
+            }
         })
     }
 }

@@ -1,17 +1,20 @@
 //! A store as it runs: its events happen one after the other.
 
 ghost use Rattle.std.specs.Prelude.{◌≡◌, IfOk};
-ghost use Rattle.explore_example.specs.Runs.{cut_of, next, goes_on, happened, last_event, value_of};
+ghost use Rattle.explore_example.specs.Runs.{cut_of, next, goes_on, happened, last_event};
 ghost use Rattle.explore_example.specs.Findings.{IsFresh};
 
 use crate::event::Event;
-use crash_explorer::{Outcome, Subject};
+use crate::mistake::Mistake;
+use crate::recovering::recovered;
+use crash_explorer::{Recovered, Subject};
 use line_memory::Bank;
 use std::alloc::{AllocError, Global};
 
 /// A store of two variables on three lines: what was made of its events so far.
 #[derive(Drop)]
 pub struct Running {
+    mistake: Mistake,
     bank: Bank,
     events: Vec<Event>,
     at: usize,
@@ -21,9 +24,9 @@ pub struct Running {
 }
 
 impl Running {
-    /// A store of these events, of which none has happened: its variables are 0, its epoch is 1, and each line has room for eight stores.
-    pub fn of(alloc: Global, events: Vec<Event>) -> Result<Running, AllocError>
-        ensures { IfOk result (IsFresh events.items) }
+    /// A store with this mistake and these events, of which none has happened: its variables are 0, its epoch is 1, and each line has room for eight stores.
+    pub fn of(alloc: Global, mistake: Mistake, events: Vec<Event>) -> Result<Running, AllocError>
+        ensures { IfOk result (IsFresh mistake events.items) }
     {
         let mut base = Vec::new(alloc);
         base.push([1, 0, 0, 0, 0, 0, 0, 0])?;
@@ -34,6 +37,7 @@ impl Running {
         bank.reserve(1, 8)?;
         bank.reserve(2, 8)?;
         Ok(Running {
+            mistake,
             bank,
             events,
             at: 0,
@@ -104,13 +108,6 @@ impl Running {
     }
 }
 
-/// The value that a cell recovers to at this epoch.
-fn recovered(epoch: u64, cell: &[u64; 8]) -> u64
-    ensures { result ≡ value_of epoch cell.now }
-{
-    if cell[2] == epoch { cell[1] } else { cell[0] }
-}
-
 impl Subject for Running {
     ghost cut = { cut_of };
 
@@ -136,16 +133,9 @@ impl Subject for Running {
         &self,
         alloc: Global,
         left: Vec<[u64; 8]>,
-        _steps: u32,
-    ) -> Result<Outcome, AllocError> {
-        if left.len() != 3 {
-            return Ok(Outcome::Refused);
-        }
-        let epoch = left[0][0];
-        let mut state = Vec::with_capacity(alloc, 2)?;
-        state.push(recovered(epoch, &left[1]))?;
-        state.push(recovered(epoch, &left[2]))?;
-        Ok(Outcome::State(state))
+        steps: u32,
+    ) -> Result<Recovered, AllocError> {
+        recovered(alloc, self.mistake, left, steps)
     }
 
     fn is_allowed(&self, state: &[u64]) -> bool {

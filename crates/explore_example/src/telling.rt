@@ -2,11 +2,11 @@
 
 ghost use Rattle.std.specs.Prelude.{◌≡◌, ◌++◌, OnOk};
 ghost use Rattle.std.specs.String.{string_bytes};
-ghost use Rattle.explore_example.specs.Words.{state_text, line_text, lines_text, outcome_text, one_text, both_text, allowed_text, last_text, wrong_text, right_text, answer_text};
+ghost use Rattle.explore_example.specs.Words.{state_text, line_text, lines_text, cut_text, inside_text, outcome_text, one_text, both_text, allowed_text, last_text, wrong_text, right_text, answer_text};
 ghost use Rattle.explore_example.specs.Runs.{last_event};
 
 use crate::running::Running;
-use crash_explorer::{Answer, Outcome, Tally, Wrong};
+use crash_explorer::{Answer, CutInside, Outcome, Tally, Wrong};
 use std::alloc::AllocError;
 
 /// Writes a state at the end.
@@ -33,6 +33,27 @@ fn push_lines(out: &mut String, kept: &[u32], pending: &[u32]) -> Result<(), All
     for line in 0..kept.len() {
         let stores = pending.get(line).copied().unwrap_or(0);
         push_line(out, line, kept[line], stores)?;
+    }
+    Ok(())
+}
+
+/// Writes at the end behind which event of recovery the power was cut, and what each line keeps.
+fn push_cut(out: &mut String, cut: &CutInside) -> Result<(), AllocError>
+    ensures { OnOk result (string_bytes out.new ≡ string_bytes out.old ++ cut_text cut.now) }
+{
+    write!(out, ", and behind event {} of its recovery", cut.event)?;
+    let kept = cut.kept.as_slice();
+    let pending = cut.pending.as_slice();
+    push_lines(out, kept, pending)?;
+    Ok(())
+}
+
+/// Writes at the end the cuts inside recovery.
+fn push_inside(out: &mut String, cuts: &[CutInside]) -> Result<(), AllocError>
+    ensures { OnOk result (string_bytes out.new ≡ string_bytes out.old ++ inside_text cuts.now) }
+{
+    for cut in cuts {
+        push_cut(out, cut)?;
     }
     Ok(())
 }
@@ -98,6 +119,8 @@ pub fn push_wrong(out: &mut String, store: &Running, wrong: &Wrong) -> Result<()
 {
     write!(out, "  cut behind event {}", wrong.event)?;
     push_lines(out, wrong.kept.as_slice(), wrong.pending.as_slice())?;
+    let cuts = wrong.inside.as_slice();
+    push_inside(out, cuts)?;
     push_outcome(out, &wrong.outcome)?;
     push_allowed(out, store)?;
     writeln!(out)?;
@@ -114,7 +137,7 @@ pub fn push_right(out: &mut String, tally: &Tally) -> Result<(), AllocError>
     let survivors = tally.survivors;
     writeln!(
         out,
-        "  {all} survivors of {events} cuts were tried and allowed: {survivors}"
+        "  {all} survivors of {events} cuts, and of the cuts inside their recoveries, were tried and allowed: {survivors}"
     )
 }
 

@@ -1,5 +1,5 @@
 -- Runs of the program one after another.
-use Rattle.std.proofs.Common.{◌≡◌, ℕ, List, [], ◌∷◌, map, Option, Some, refl, sym, ap, ◌∙◌, subst}
+use Rattle.std.proofs.Common.{◌≡◌, ℕ, List, [], ◌∷◌, map, Option, Some, sym, ap, ◌∙◌, subst}
 use Rattle.std.specs.FinMap.{get}
 use Rattle.byte_ports.specs.Images.{Named}
 use Rattle.byte_ports.proofs.Maps.{setting}
@@ -22,7 +22,7 @@ use Rattle.drill.proofs.NextLives.{has_rooms}
 use Rattle.script_text.specs.Program.{Program}
 use Rattle.store_order.specs.declared.choice.Choice.{Choice}
 use Rattle.respct.specs.Openings.{BeginsAs, GoesOn}
-use Rattle.respct.specs.Run.{Led, IsLed, HasSaved}
+use Rattle.respct.specs.Run.{Led, IsLed}
 use Rattle.respct.specs.Runs.{Run, IsRun, AreResumesOf, life_of, RunsLaw}
 
 -- a life begins with the sizes and the commands of its program

@@ -1,6 +1,7 @@
 use Rattle.std.proofs.Common.{◌≡◌}
 use Rattle.crash_explorer.specs.Cut.{AreWithin}
-use Rattle.crash_explorer.proofs.Advancing.{advanced, has_next, advanced_from, has_next_from}
+use Rattle.crash_explorer.specs.Order.{advanced}
+use Rattle.crash_explorer.proofs.Advancing.{has_next, advanced_from, has_next_from}
 use Rattle.crash_explorer.proofs.counts.turn.Given as goal
 
 abbrev pub invariant-loop-i : goal.invariant-loop-i

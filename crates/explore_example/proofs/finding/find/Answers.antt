@@ -1,4 +1,4 @@
-use Rattle.std.proofs.Common.{◌≡◌, ℕ, List, [], ◌++◌, codes, refl, subst}
+use Rattle.std.proofs.Common.{◌≡◌, List, [], ◌++◌, codes, refl, subst}
 use Rattle.std.specs.String.{string_bytes}
 use Rattle.explore_example.specs.declared.event.Event.{Event}
 use Rattle.explore_example.specs.Words.{mistake_text, answer_text}
@@ -12,10 +12,10 @@ returns c =
     record {
       first = c.in_ok-store.store;
       last = c.explore.new.subject;
-      plan = record { events = 1000; budget = 1000; seeds = c.new.result; steps = 1 };
+      plan = record { events = 1000; budget = 1000; seeds = c.new.result; steps = 100; depth = 1 };
       answer = c.in_ok-answer.answer;
-      fresh = subst (λ (events : List Event). IsFresh events c.in_ok-store.store) c.in_ok-events_of.ensures c.in_ok-store.ensures;
-      is_plan = record { events = refl; budget = refl };
-      found = c.in_ok-answer.ensures;
+      fresh = subst (λ (events : List Event). IsFresh c.args.mistake events c.in_ok-store.store) c.in_ok-events_of.ensures c.in_ok-store.ensures;
+      is_plan = record { events = refl; budget = refl; steps = refl; depth = refl };
+      found = c.in_ok-answer.ensures.answer;
       told = grown (string_bytes c.push_answer.new.out) (string_bytes c.in_ok-out.out) [] (mistake_text c.args.mistake ++ codes "\n") (answer_text c.explore.new.subject c.in_ok-answer.answer) c.in_ok-push_answer.ensures made;
     }

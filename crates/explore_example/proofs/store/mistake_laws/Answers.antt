@@ -14,6 +14,7 @@ returns-clause-writes c = record {
   };
   unfenced = λ epoch variable old value. refl;
   epoch_early = λ epoch variable old value. refl;
+  recovery_early = λ epoch variable old value. refl;
 }
 
 pub returns-clause-closings : goal.returns-clause-closings
@@ -31,6 +32,22 @@ returns-clause-closings c = record {
     between = Fence ∷ [];
     moved = Store 0 0 (epoch + 1);
     behind = WriteBack 0 ∷ Fence ∷ Closed ∷ [];
+    whole_is = refl;
+    other_is = refl;
+  };
+  recovery_early = λ epoch. refl;
+}
+
+pub returns-clause-recoveries : goal.returns-clause-recoveries
+returns-clause-recoveries c = record {
+  record_first = λ epoch. refl;
+  unfenced = λ epoch. refl;
+  epoch_early = λ epoch. refl;
+  recovery_early = λ epoch. record {
+    before = [];
+    between = Fence ∷ [];
+    moved = Store 0 0 (epoch + 1);
+    behind = WriteBack 0 ∷ Fence ∷ [];
     whole_is = refl;
     other_is = refl;
   };

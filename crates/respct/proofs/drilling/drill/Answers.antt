@@ -1,5 +1,4 @@
-use Rattle.std.proofs.Common.{Err, ap, refl}
-use Rattle.respct.proofs.Steps.{cause_of}
+use Rattle.std.proofs.Common.{refl}
 use Rattle.respct.proofs.drilling.drill.Goals as goal
 
 pub returns-in-Err-clause-refused : goal.returns-in-Err-clause-refused
@@ -7,9 +6,3 @@ returns-in-Err-clause-refused g c = (c.in-Err.ensures.refused, refl)
 
 pub returns-in-Ok-tell-clause-drilled : goal.returns-in-Ok-tell-clause-drilled
 returns-in-Ok-tell-clause-drilled g c = record { summary = c.in-Ok.summary; drilled = record { tells = c.in-Ok.ensures.told; holds = c.in-Ok.ensures.held; kept = (c.in-Ok.ensures.kept).0; finished = (c.in-Ok.ensures.kept).1 }; appended = c.in-Ok-tell.ensures.written }
-
-pub returns-clause-refused : goal.returns-clause-refused
-returns-clause-refused g c = (
-  cause_of c.in-Err-tell.refusal (g.W.Sink.count c.args.sink.now) (g.W.Sink.count c.tell.new.sink) (λ e. c.in-Err-tell.ensures.failed (ap Err e)),
-  record { summary = c.in-Ok.summary; drilled = record { tells = c.in-Ok.ensures.told; holds = c.in-Ok.ensures.held; kept = (c.in-Ok.ensures.kept).0; finished = (c.in-Ok.ensures.kept).1 }; some = c.in-Err-tell.ensures.refused },
-)

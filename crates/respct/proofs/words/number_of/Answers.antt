@@ -1,4 +1,4 @@
-use Rattle.std.proofs.Common.{◌≡◌, ◌≢◌, ◌⊎◌, ◌<◌, ◌≤◌, ℕ, List, Option, get_or, length, inl, inr, arith, sym, subst}
+use Rattle.std.proofs.Common.{◌≢◌, ◌⊎◌, ◌<◌, ◌≤◌, ℕ, List, get_or, length, inl, inr, arith, sym, subst}
 use Rattle.respct.proofs.Numerals.{StandsFor, no_number, parsed, led_by, not_led_by, one_zero}
 use Rattle.respct.proofs.words.number_of.Goals.{else-digits-gt1-via-then-digits-gt1+else-starts_with-2, else-digits-gt1-via-else-digits-gt1}
 use Rattle.respct.proofs.words.number_of.Goals as goal
