@@ -1,9 +1,9 @@
 pub mod Openings
 mod GivingUp
-mod Fitting
-mod Waiting
+pub mod Fitting
+pub mod Waiting
 mod Reporting
-mod Sections
+pub mod Sections
 mod Starting
 mod Owned
 mod Marked
@@ -15,9 +15,9 @@ mod Rising
 mod Enough
 mod FirstTurns
 mod FewTorn
-mod HandedOver
+pub mod HandedOver
 mod RunsIn
-mod Placed
+pub mod Placed
 mod Resumed
 pub mod StartsTold
 pub mod Checked

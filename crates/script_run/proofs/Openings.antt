@@ -117,7 +117,7 @@ module _ (c : WorkerState) (b : Beginning) (i : ℕ) where
   by_hand (Closes closer) fits most = let phase = fits.closes.phase in absurd (cc)
   by_hand (Refused x) fits most = none_held fits.grip fits.holds.held
 
-  nothing_done : IsWorker c (opening_view b i) → c.done ≤ 0
+  pub nothing_done : IsWorker c (opening_view b i) → c.done ≤ 0
   nothing_done worker = by_hand c.hand worker.hand worker.most
 
 -- THE FIRST STATE.
@@ -129,7 +129,7 @@ counted_alike a b w opens also room lt =
     sym (also.yard.rooms room at.0 at.1).write_backs ∙ (opens.yard.rooms room at.0 at.1).write_backs
 
 -- what holds of no write-back, and of the counts of a life that opens with a world, holds of those that are read off the world
-counts_in : (P : ℕ → Type 0) (a b : Beginning) (w : WorldState) → Opens a w → Opens b w → b.write_backs ≡ map (λ (x : Room). (bank_of x).write_backs) w.rooms → P 0 → ((room : ℕ) → P (write_backs_at a room))
+pub counts_in : (P : ℕ → Type 0) (a b : Beginning) (w : WorldState) → Opens a w → Opens b w → b.write_backs ≡ map (λ (x : Room). (bank_of x).write_backs) w.rooms → P 0 → ((room : ℕ) → P (write_backs_at a room))
     → (room : ℕ) → P (write_backs_at b room)
 counts_in P a b w opens also counts none each room = elim (cases_lt room (room_count (sizes_at a))) [
   | inl lt ↦ subst P (sym (counted_alike a b w opens also room lt)) (each room)
@@ -140,7 +140,7 @@ counts_in P a b w opens also counts none each room = elim (cases_lt room (room_c
 ]
 
 -- a start had counted no write-back
-start_none : (settings : Settings) (scripts : Scripts) (limit room : ℕ) → write_backs_at (start_beginning settings scripts limit) room ≡ 0
+pub start_none : (settings : Settings) (scripts : Scripts) (limit room : ℕ) → write_backs_at (start_beginning settings scripts limit) room ≡ 0
 start_none settings scripts limit room = zero_at (room_count (sizes_of settings)) room
 
 pub start_counts : (settings : Settings) (scripts : Scripts) (limit room : ℕ) → write_backs_at (start_beginning settings scripts limit) room < 2 ^ 63
