@@ -27,7 +27,7 @@ use Rattle.script_text.proofs.WholeLaws.{one_text}
 use Rattle.respct.specs.declared.fitting.Misfit.{Misfit}
 use Rattle.respct.specs.declared.status.Status.{Status}
 use Rattle.respct.specs.declared.status.Status.TheVariants as statuses
-use Rattle.respct.specs.Words.{IsResume, AskFor}
+use Rattle.program_words.specs.Words.{IsResume, AskFor}
 use Rattle.respct.specs.Loads.{IsSpelling, IsLawfulSpelling, AreNoImage, IsFirstFault, IsFaulty}
 use Rattle.respct.specs.Openings.{misfit_in, places_in, BeginsAs, IsMisfit}
 use Rattle.respct.specs.Misfits.{first_misfit}

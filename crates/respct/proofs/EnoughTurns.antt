@@ -1,5 +1,5 @@
 -- Where the turns of a script are enough, no life of it is told as cut, and none without a take as stalled.
-use Rattle.std.proofs.Common.{◌≡◌, ◌≢◌, ◌⊎◌, ℕ, ◌*◌, ◌<◌, ◌≤◌, List, Option, Some, refl, sym, ap, ◌∙◌, subst, inl, inr, arith}
+use Rattle.std.proofs.Common.{◌≡◌, ◌≢◌, ◌⊎◌, ℕ, ◌<◌, List, Option, Some, refl, ap, ◌∙◌, subst, inl, inr, arith}
 use Rattle.byte_ports.specs.Images.{Named}
 use Rattle.line_memory.specs.Line.{BankState}
 use Rattle.room_model.specs.Image.{ImageRooms as Rooms}
@@ -11,7 +11,7 @@ use Rattle.life_model.specs.declared.life.Life.TheVariants.{Start, Resume}
 use Rattle.life_model.specs.declared.life.Outcome.{Outcome}
 use Rattle.life_model.specs.declared.life.Outcome.TheVariants as ends
 use Rattle.life_model.specs.Life.{Opening}
-use Rattle.life_model.specs.Work.{OffersRounds, turns_for_rounds, HasNoTake}
+use Rattle.life_model.specs.Work.{OffersRounds, turns_for_rounds}
 use Rattle.life_laws.proofs.Works.{worker_rounds}
 use Rattle.plain_yard.specs.Opening.{commands_in}
 use Rattle.rounds.specs.Spent.{takeless_rounds, enough_rounds}
@@ -23,7 +23,7 @@ use Rattle.script_text.proofs.WholeLaws.{one_text}
 use Rattle.script_run.specs.Enough.{EndsWhereEnough}
 use Rattle.respct.specs.declared.status.Status.{Status}
 use Rattle.respct.specs.declared.status.Status.TheVariants as statuses
-use Rattle.respct.specs.Words.{AskFor}
+use Rattle.program_words.specs.Words.{AskFor}
 use Rattle.respct.specs.Openings.{BeginsAs}
 use Rattle.respct.specs.Run.{Led, IsLed, schedule_in}
 use Rattle.respct.specs.Steps.{Ports}

@@ -27,7 +27,7 @@ use Rattle.respct.specs.declared.opening.NotOpened.TheVariants as openings
 use Rattle.respct.specs.declared.reading.NoScript.TheVariants as scripts
 use Rattle.respct.specs.declared.status.Status.{Status}
 use Rattle.respct.specs.declared.status.Status.TheVariants as statuses
-use Rattle.respct.specs.Words.{IsResume, IsCheck, IsDrill, AskFor}
+use Rattle.program_words.specs.Words.{IsResume, IsCheck, IsDrill, AskFor}
 use Rattle.respct.specs.Status.{status_of_end, status_of_unopened, status_of_life, status_of_check, status_of_drill}
 use Rattle.respct.specs.Loads.{IsFaulty}
 use Rattle.respct.specs.Openings.{IsMisfit}

@@ -20,7 +20,7 @@ use Rattle.respct.specs.declared.status.Status.TheVariants as statuses
 use Rattle.respct.specs.declared.fitting.Misfit.{Misfit}
 use Rattle.respct.specs.declared.answer.PlainAnswer.{PlainAnswer}
 use Rattle.respct.specs.declared.answer.PlainAnswer.TheVariants.{Ended}
-use Rattle.respct.specs.Words.{IsResume, IsCheck}
+use Rattle.program_words.specs.Words.{IsResume, IsCheck}
 use Rattle.respct.specs.Run.{script_limit, HasRead}
 use Rattle.respct.specs.Loads.{IsSpelling, IsLawfulSpelling, AreNoImage, IsFirstFault}
 use Rattle.respct.specs.Openings.{misfit_in}

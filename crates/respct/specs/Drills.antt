@@ -1,5 +1,5 @@
 -- What a drill tells: the text of the summary of its nine lives.
-use Rattle.std.specs.Prelude.{◌≡◌, ℕ, ◌⊎◌, Option, List, Result, Ok, Err}
+use Rattle.std.specs.Prelude.{◌≡◌, ℕ, ◌⊎◌, Option, List}
 use Rattle.byte_ports.specs.Bytes.{Appended, AppendedSome}
 use Rattle.byte_ports.specs.Images.{Named}
 use Rattle.line_memory.specs.Line.{BankState}

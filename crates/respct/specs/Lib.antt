@@ -1,5 +1,4 @@
 pub mod Status
-pub mod Words
 pub mod Loads
 pub mod Misfits
 pub mod Openings

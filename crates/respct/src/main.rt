@@ -23,7 +23,6 @@ mod tests_images;
 #[cfg(test)]
 mod tests_resumes;
 mod top;
-mod words;
 mod writing;
 
 ghost use Rattle.std.specs.Prelude.{◌≡◌, ◌⊎◌, IfErr};

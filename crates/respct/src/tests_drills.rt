@@ -1,9 +1,8 @@
-//! Drills: their words, what they print, and a sink that fails.
+//! Drills: what they print, and a sink that fails.
 
 use crate::status::Status;
 use crate::tests::words_in;
 use crate::top::respct;
-use crate::words::{Form, form_of};
 use byte_ports::{MemoryImages, MemorySink, MemorySource};
 use line_memory::Memory;
 use std::alloc::AllocError;
@@ -30,36 +29,6 @@ fn drilled(
     );
     let text = Vec::from_slice(rt.alloc(), sink.bytes())?;
     Ok((status, text, memory.rooms()))
-}
-
-/// A number is its digits, with no zero in front, and has 64 bits.
-#[test]
-fn words_of_drills(rt: HostRuntime) -> Result<(), Fail> {
-    for (words, wanted) in [
-        ("drill 0", Some(0)),
-        ("drill 1", Some(1)),
-        ("drill 18446744073709551615", Some(u64::MAX)),
-        ("drill 18446744073709551616", None),
-        ("drill 01", None),
-        ("drill 00", None),
-        ("drill +1", None),
-        ("drill -1", None),
-        ("drill 1x", None),
-        ("drill x", None),
-        ("drill", None),
-        ("drill 1 x", None),
-        ("drill --image x", None),
-        ("drill=1", None),
-        ("drills 1", None),
-    ] {
-        let list = words_in(rt.alloc(), words)?;
-        let number = match form_of(&list) {
-            Some(Form::Drill { number }) => Some(number),
-            _ => None,
-        };
-        assert!(rt; number == wanted, "at {words:?}");
-    }
-    Ok(())
 }
 
 /// All commands of a drill are kept, by each number; the same number gives the same text again, and another one another text.

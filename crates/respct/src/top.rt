@@ -16,7 +16,7 @@ ghost use Rattle.respct.specs.declared.fitting.Misfit.{Misfit as FirstMisfit};
 ghost use Rattle.respct.specs.declared.status.Status.TheVariants.{Finished, Usage, Script, Stalled, Cut, Image, Misfit, ReadFault, WriteFault};
 ghost use Rattle.respct.specs.declared.status.Status.TheVariants.{StoreFault, NoImage, OutOfMemory, TooLong};
 ghost use Rattle.respct.specs.declared.answer.PlainAnswer.TheVariants.{Ended};
-ghost use Rattle.respct.specs.Words.{IsResume, IsCheck, IsDrill, AskFor, AreOfNoForm};
+ghost use Rattle.program_words.specs.Words.{IsResume, IsCheck, IsDrill, AskFor, AreOfNoForm};
 ghost use Rattle.respct.specs.Openings.{IsMisfit};
 ghost use Rattle.respct.specs.Run.{Led, HasRead, IsLed, HasSaved};
 ghost use Rattle.respct.specs.Loads.{IsFaulty};
@@ -30,10 +30,10 @@ use crate::checking::check;
 use crate::drilling::drill;
 use crate::leading::lead;
 use crate::status::Status;
-use crate::words::{Form, form_of};
 use byte_ports::{Images, Sink, Source};
 use line_memory::Memory;
 use power_cut::ImageFault;
+use program_words::{Form, form_of};
 use script_text::ScriptFault;
 use std::alloc::Global;
 
@@ -276,7 +276,11 @@ pub fn respct_plain<S: Source, G: Images, W: Sink>(
     ensures drilled { (n : ℕ) → IsDrill (map string_bytes words.now) n
         → ((status_in result ≡ WriteFault) × Rose (W.count report.old) (W.count report.new)) ⊎ IsUnlessStarved Finished (status_in result) }
 {
-    match form_of(words) {
+    let form = match form_of(alloc, words) {
+        Ok(form) => form,
+        Err(_) => return PlainAnswer::Ended(Status::OutOfMemory),
+    };
+    match form {
         Some(Form::Lead { life, image }) => {
             let ended = lead(alloc, life, script, images, image, report, memory);
             PlainAnswer::Ended(Status::of_life(ended))

@@ -1,6 +1,8 @@
-use Rattle.std.proofs.Common.{◌≡◌, ℕ, List, map, rules, refl, sym, subst}
+use Rattle.std.proofs.Common.{◌≡◌, ℕ, List, map, Option, Some, None, inl, inr, rules, refl, sym, subst}
+use Rattle.std.specs.Prelude.{MatchOption}
 use Rattle.std.specs.FinMap.{get}
 use Rattle.std.specs.String.{string_bytes}
+use Rattle.program_words.specs.Words.{AreOfNoForm, HaveForm, AreWordsOf}
 use Rattle.respct.specs.declared.status.Status.{Status}
 use Rattle.respct.specs.Answers.{LeadsCheckTo}
 use Rattle.respct.specs.Steps.{ports}
@@ -223,15 +225,33 @@ returns-in-Some-Drill-clause-drilled g c = λ n is.
     drill_ends c.in-Some-Drill.number c.drill-ended.new.memory (g.W.Sink.held c.args.report.now) (g.W.Sink.held c.drill-ended.new.sink) (g.W.Sink.count c.args.report.now) (g.W.Sink.count c.drill-ended.new.sink) c.drill-ended.result
     c.drill-ended.ensures.refused c.of_drill.result c.of_drill.ensures
 
+-- WANT OF MEMORY.
+
+-- words that have a form are not of no form
+have_one : (words : List (List ℕ)) → HaveForm words → AreOfNoForm words → ⊥
+have_one words (inl start) none = none.no_start start.0 start.1
+have_one words (inr (inl resume)) none = none.no_resume resume.0 resume.1
+have_one words (inr (inr (inl check))) none = none.no_check check.0 check.1
+have_one words (inr (inr (inr drill))) none = none.no_drill drill.0 drill.1
+
+pub returns-in-Err-clause-usage : goal.returns-in-Err-clause-usage
+returns-in-Err-clause-usage g c = (λ e. absurd (cc e), λ none. absurd (have_one (map string_bytes c.args.words.now) c.in-Err.ensures.want none))
+
 -- OF NO FORM.
+
+-- what is said where there is no form
+of_none : {F : Type 0} (form : Option F) (P : Type 0) (Q : F → Type 0) → MatchOption form P Q → form ≡ None → P
+of_none None P Q is none = is
+of_none (Some f) P Q is none = absurd (cc none)
+
 pub returns-in-None-clause-complete : goal.returns-in-None-clause-complete
-returns-in-None-clause-complete g c = λ life_asked name is reading saving writing bytes told. absurd (no_life_asked life_asked (map string_bytes c.args.words.now) name c.in-None.ensures is)
+returns-in-None-clause-complete g c = λ life_asked name is reading saving writing bytes told. absurd (no_life_asked life_asked (map string_bytes c.args.words.now) name (of_none c.in-Ok.form (AreOfNoForm (map string_bytes c.args.words.now)) (AreWordsOf (map string_bytes c.args.words.now)) c.in-Ok.ensures.form c.in-None.is) is)
 
 pub returns-in-None-clause-in_time : goal.returns-in-None-clause-in_time
-returns-in-None-clause-in_time g c = λ life_asked name is bytes told p built. absurd (no_life_asked life_asked (map string_bytes c.args.words.now) name c.in-None.ensures is)
+returns-in-None-clause-in_time g c = λ life_asked name is bytes told p built. absurd (no_life_asked life_asked (map string_bytes c.args.words.now) name (of_none c.in-Ok.form (AreOfNoForm (map string_bytes c.args.words.now)) (AreWordsOf (map string_bytes c.args.words.now)) c.in-Ok.ensures.form c.in-None.is) is)
 
 pub returns-in-None-clause-judged : goal.returns-in-None-clause-judged
-returns-in-None-clause-judged g c = λ name is loading writing named told. absurd (c.in-None.ensures.no_check name is)
+returns-in-None-clause-judged g c = λ name is loading writing named told. absurd ((of_none c.in-Ok.form (AreOfNoForm (map string_bytes c.args.words.now)) (AreWordsOf (map string_bytes c.args.words.now)) c.in-Ok.ensures.form c.in-None.is).no_check name is)
 
 pub returns-in-None-clause-drilled : goal.returns-in-None-clause-drilled
-returns-in-None-clause-drilled g c = λ n is. absurd (c.in-None.ensures.no_drill n is)
+returns-in-None-clause-drilled g c = λ n is. absurd ((of_none c.in-Ok.form (AreOfNoForm (map string_bytes c.args.words.now)) (AreWordsOf (map string_bytes c.args.words.now)) c.in-Ok.ensures.form c.in-None.is).no_drill n is)
